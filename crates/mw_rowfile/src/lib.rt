@@ -6,6 +6,7 @@ mod fault;
 mod line;
 pub mod named;
 mod reader;
+mod report;
 mod row;
 mod runner;
 mod spelled;
@@ -14,5 +15,6 @@ pub mod texts;
 
 pub use fault::{Fault, wrong};
 pub use reader::rows_of;
+pub use report::Report;
 pub use row::{Change, End, File, Row, RowFiles, Rows, Set, Work, contents, contents_in, text_in};
 pub use runner::{Worker, run};

@@ -122,13 +122,8 @@ fn depth_of(text: &str) -> Result<u8, Fault>
     }
 }
 
-/// The sequencer of `pc=`, `r=`, `sp=` and `stack=`, whose 5 or 9 words stand with commas between, the oldest first.
-pub fn sequencer_of(words: &[String]) -> Result<Seq, Fault> {
-    let text = text_of(words, "stack")?;
-    let mut seq = Seq::cleared(depth_of(text)?);
-    seq.pc = address_of(words, "pc")?;
-    seq.r = address_of(words, "r")?;
-    seq.sp = pointer_of(words, seq.depth())?;
+/// Sets the words of a stack.
+fn set_stack(seq: &mut Seq, text: &str) -> Result<(), Fault> {
     for place in 0..9 {
         // Not a bound of the loop: that no word changes how many there are would need an invariant.
         if place < seq.depth() {
@@ -136,5 +131,16 @@ pub fn sequencer_of(words: &[String]) -> Result<Seq, Fault> {
             seq.set_word(place, word);
         }
     }
+    Ok(())
+}
+
+/// The sequencer of `pc=`, `r=`, `sp=` and `stack=`, whose 5 or 9 words stand with commas between, the oldest first.
+pub fn sequencer_of(words: &[String]) -> Result<Seq, Fault> {
+    let text = text_of(words, "stack")?;
+    let mut seq = Seq::cleared(depth_of(text)?);
+    seq.pc = address_of(words, "pc")?;
+    seq.r = address_of(words, "r")?;
+    seq.sp = pointer_of(words, seq.depth())?;
+    set_stack(&mut seq, text)?;
     Ok(seq)
 }

@@ -224,6 +224,11 @@ impl Reader {
         Ok(())
     }
 
+    fn turn_change(&mut self) -> Result<(), Fault> {
+        self.change()?.turned = true;
+        Ok(())
+    }
+
     /// The place where the work of the row at hand goes, which has none yet.
     fn work(&mut self) -> Result<&mut Option<Work>, Fault> {
         let row = self.row()?;
@@ -243,6 +248,16 @@ impl Reader {
         }
         self.section = Section::Row;
         Ok(())
+    }
+
+    fn take_command(&mut self, words: &str) -> Result<(), Fault> {
+        let words = words_of(self.alloc, words)?;
+        self.take_work(Work::Bench(words))
+    }
+
+    fn take_call(&mut self, words: &str) -> Result<(), Fault> {
+        let words = words_of(self.alloc, words)?;
+        self.take_work(Work::Call(words))
     }
 
     fn begin_end(&mut self, status: u8, begins: bool) -> Result<(), Fault> {
@@ -274,6 +289,11 @@ impl Reader {
         self.rows.rows.push(row)?;
         self.section = Section::Report;
         Ok(())
+    }
+
+    fn begin_status(&mut self, status: &str, begins: bool) -> Result<(), Fault> {
+        let status = status_of(status)?;
+        self.begin_end(status, begins)
     }
 
     /// To what a line of text is added, if it belongs anywhere.
@@ -310,6 +330,14 @@ impl Reader {
         Ok(())
     }
 
+    fn take_spelled(&mut self, text: &str) -> Result<(), Fault> {
+        push_spelled(self.text()?, text)
+    }
+
+    fn take_repeated(&mut self, text: &str) -> Result<(), Fault> {
+        push_repeated(self.text()?, text)
+    }
+
     fn take(&mut self, line: Line<'_>, number: u64) -> Result<(), Fault> {
         match line {
             Line::Nothing => Ok(()),
@@ -319,18 +347,15 @@ impl Reader {
             Line::File(name) => self.begin_file(name),
             Line::Change(name) => self.begin_change(name),
             Line::Without(keys) => self.take_keys(keys),
-            Line::Turned => {
-                self.change()?.turned = true;
-                Ok(())
-            }
-            Line::Words(words) => self.take_work(Work::Bench(words_of(self.alloc, words)?)),
-            Line::Call(words) => self.take_work(Work::Call(words_of(self.alloc, words)?)),
-            Line::Status(status) => self.begin_end(status_of(status)?, false),
-            Line::Begins(status) => self.begin_end(status_of(status)?, true),
+            Line::Turned => self.turn_change(),
+            Line::Words(words) => self.take_command(words),
+            Line::Call(words) => self.take_call(words),
+            Line::Status(status) => self.begin_status(status, false),
+            Line::Begins(status) => self.begin_status(status, true),
             Line::Gives => self.begin_end(0, false),
             Line::Text(text) => self.take_text(text),
-            Line::Spelled(text) => push_spelled(self.text()?, text),
-            Line::Repeated(text) => push_repeated(self.text()?, text),
+            Line::Spelled(text) => self.take_spelled(text),
+            Line::Repeated(text) => self.take_repeated(text),
         }
     }
 

@@ -1,6 +1,7 @@
 // Runs rows.
 use crate::fault::Fault;
 use crate::reader::rows_of;
+use crate::report::Report;
 use crate::row::{Change, End, File, Row, RowFiles, Rows, Work, as_text};
 use std::alloc::Global;
 use std::env::{self, Env};
@@ -29,6 +30,30 @@ fn is_under(keys: &[String], line: &str) -> bool {
     false
 }
 
+/// Appends the lines of a file, but for those under these keys.
+fn push_lines<'a>(
+    lines: &mut Vec<&'a str>,
+    contents: &'a [u8],
+    without: &[String],
+) -> Result<(), Fault> {
+    for line in as_text(contents)?.lines() {
+        if !is_under(without, line) {
+            lines.push(line)?;
+        }
+    }
+    Ok(())
+}
+
+/// Lines as a text.
+fn joined(alloc: Global, lines: &[&str]) -> Result<Vec<u8>, Fault> {
+    let mut text = Report::new(alloc);
+    for line in lines {
+        text.push(line.as_bytes());
+        text.push(b"\n");
+    }
+    text.finish()
+}
+
 /// A file's contents with a change.
 fn changed(
     alloc: Global,
@@ -37,23 +62,12 @@ fn changed(
     turned: bool,
 ) -> Result<Vec<u8>, Fault> {
     let mut lines = Vec::new(alloc);
-    for line in as_text(contents)?.lines() {
-        if !is_under(&change.without, line) {
-            lines.push(line)?;
-        }
-    }
-    for line in as_text(&change.lines)?.lines() {
-        lines.push(line)?;
-    }
+    push_lines(&mut lines, contents, &change.without)?;
+    push_lines(&mut lines, &change.lines, &[])?;
     if turned {
         lines.reverse();
     }
-    let mut text = Vec::new(alloc);
-    for line in lines.iter() {
-        text.extend_from_slice(line.as_bytes())?;
-        text.push(b'\n')?;
-    }
-    Ok(text)
+    joined(alloc, &lines)
 }
 
 fn push_file(
@@ -127,6 +141,20 @@ fn print_row<R: Print + AllocGlobal>(
     print_end(rt, "came", came)
 }
 
+/// Whether an end is as the row says. The row is printed where it isn't.
+fn judged<R: Print + AllocGlobal>(
+    rt: &R,
+    file: &str,
+    row: &Row,
+    came: &End,
+) -> Result<bool, Fault> {
+    let wanted = is_wanted(row, came);
+    if !wanted {
+        print_row(rt, file, row, came)?;
+    }
+    Ok(wanted)
+}
+
 /// Runs a row, prints it where it ends otherwise, and answers whether it ends as it says.
 fn run_row<R: Print + AllocGlobal, W: Worker>(
     rt: &R,
@@ -139,16 +167,14 @@ fn run_row<R: Print + AllocGlobal, W: Worker>(
     let files = files_of(rt.alloc(), rows, &row.files, turned)?;
     let came = worker.ended(rt.alloc(), &row.work, &files);
     drop(files);
-    let came = came?;
-    let wanted = is_wanted(row, &came);
-    let printed = if wanted {
-        Ok(())
-    } else {
-        print_row(rt, file, row, &came)
-    };
-    drop(came);
-    printed?;
-    Ok(wanted)
+    match came {
+        Ok(came) => {
+            let holds = judged(rt, file, row, &came);
+            drop(came);
+            holds
+        }
+        Err(fault) => Err(fault),
+    }
 }
 
 /// Runs a row, with its change turned too where the row says so.

@@ -86,6 +86,14 @@ fn spelled_text(alloc: Global, text: &str) -> Result<String, Fault> {
     }
 }
 
+/// Appends the words between blanks.
+fn push_words(alloc: Global, words: &mut Vec<String>, piece: &str) -> Result<(), Fault> {
+    for word in piece.split_whitespace() {
+        words.push(String::from_str(alloc, word)?)?;
+    }
+    Ok(())
+}
+
 /// The words of a line: they stand between blanks, or in quotation marks, where they are spelled.
 pub fn words_of(alloc: Global, line: &str) -> Result<Vec<String>, Fault> {
     let mut words = Vec::new(alloc);
@@ -95,9 +103,7 @@ pub fn words_of(alloc: Global, line: &str) -> Result<Vec<String>, Fault> {
         if quoted {
             words.push(spelled_text(alloc, piece)?)?;
         } else {
-            for word in piece.split_whitespace() {
-                words.push(String::from_str(alloc, word)?)?;
-            }
+            push_words(alloc, &mut words, piece)?;
         }
     }
     if quoted {

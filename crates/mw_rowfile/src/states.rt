@@ -38,34 +38,64 @@ pub fn store_of(alloc: Global, files: &[File]) -> Result<Store, Fault> {
     })
 }
 
+/// Sets the memory word at an address.
+fn set_memory_word(state: &mut State, place: &str, value: u32) -> Result<(), Fault> {
+    set_word(&mut state.memory, hexadecimal(place)?, value)
+}
+
+/// Sets the register of a number, which is decimal.
+fn set_register(state: &mut State, place: &str, value: u32) -> Result<(), Fault> {
+    match place.parse::<u64>() {
+        Ok(place) => set_word(&mut state.regs, place, value),
+        Err(_) => Err(wrong("no such register")),
+    }
+}
+
 /// Sets a register, named as `rN`, or a memory word, named as `memA`.
-fn set_named_word(state: &mut State, name: &str, value: u32) -> Result<(), Fault> {
+fn set_named_word(state: &mut State, name: &str, number: u64) -> Result<(), Fault> {
+    let value = word(number)?;
     if let Some(place) = name.strip_prefix("mem") {
-        return set_word(&mut state.memory, hexadecimal(place)?, value);
+        return set_memory_word(state, place, value);
     }
     match name.strip_prefix('r') {
-        Some(number) => match number.parse::<u64>() {
-            Ok(number) => set_word(&mut state.regs, number, value),
-            Err(_) => Err(wrong("no such register")),
-        },
+        Some(place) => set_register(state, place, value),
         None => Err(wrong("no such part of a state")),
+    }
+}
+
+/// Sets the control address.
+fn set_address(place: &mut u16, number: u64) -> Result<(), Fault> {
+    *place = address(number)?;
+    Ok(())
+}
+
+/// Sets a number of 32 bits.
+fn set_number(place: &mut u32, number: u64) -> Result<(), Fault> {
+    *place = word(number)?;
+    Ok(())
+}
+
+/// Sets the flip-flops.
+fn set_flips(place: &mut u16, number: u64) -> Result<(), Fault> {
+    match u16::try_from(number) {
+        Ok(flips) => {
+            *place = flips;
+            Ok(())
+        }
+        Err(_) => Err(wrong("no flip-flops")),
     }
 }
 
 /// Sets a part of a state, but for the sequencer.
 fn set_part(state: &mut State, name: &str, number: u64) -> Result<(), Fault> {
     match name {
-        "at" => state.at = address(number)?,
-        "q" => state.q = word(number)?,
-        "mar" => state.mar = word(number)?,
-        "ir" => state.ir = word(number)?,
-        "flips" => match u16::try_from(number) {
-            Ok(flips) => state.flips = flips,
-            Err(_) => return Err(wrong("no flip-flops")),
-        },
-        _ => return set_named_word(state, name, word(number)?),
+        "at" => set_address(&mut state.at, number),
+        "q" => set_number(&mut state.q, number),
+        "mar" => set_number(&mut state.mar, number),
+        "ir" => set_number(&mut state.ir, number),
+        "flips" => set_flips(&mut state.flips, number),
+        _ => set_named_word(state, name, number),
     }
-    Ok(())
 }
 
 fn is_of_sequencer(name: &str) -> bool {

@@ -1,43 +1,21 @@
-// Refusals, states and nets as texts. In states and nets numbers are hexadecimal, but for N in `rN=`, a register;
-// `memA=` is the memory word at A. Registers and memory words that are 0 aren't named.
-use crate::fault::Fault;
-use mw_base::{Event, Refusal, Refused};
+// States and nets as texts. Their numbers are hexadecimal, but for N in `rN=`, a register; `memA=` is the memory word at
+// A. Registers and memory words that are 0 aren't named.
+use crate::report::Report;
+use mw_base::Event;
 use mw_cycle::{Nets, State};
 use mw_seq::Seq;
-use std::alloc::{AllocError, Global};
 
-/// Appends the line of a refusal: its line, column and cause.
-///
-/// # Errors
-///
-/// Want of memory, also where that is why the text was refused.
-pub fn push_refusal(alloc: Global, report: &mut Vec<u8>, refusal: Refusal) -> Result<(), Fault> {
-    let Refused::At(fault) = refusal else {
-        return Err(Fault::NoMemory);
-    };
-    let (line, column, cause) = (fault.line, fault.column, fault.cause.number());
-    let text = format!(in alloc; "refused line {line} column {column} cause {cause}\n")?;
-    report.extend_from_slice(text.as_bytes())?;
-    Ok(())
-}
-
-/// Addresses with commas between.
-fn addresses(alloc: Global, addresses: &[u16]) -> Result<String, AllocError> {
-    let mut text = String::new(alloc);
-    for (place, address) in addresses.iter().enumerate() {
-        let comma = if place == 0 { "" } else { "," };
-        let named = format!(in alloc; "{comma}{address:x}")?;
-        text.push_str(&named)?;
+/// Appends addresses with commas between.
+fn push_addresses(report: &mut Report, addresses: &[u16]) {
+    let mut before: &[u8] = b"";
+    for &address in addresses {
+        report.push_named(before, u64::from(address));
+        before = b",";
     }
-    Ok(text)
 }
 
-/// A sequencer: `pc=`, `r=`, `sp=` and `stack=`, whose words have commas between, the oldest first.
-///
-/// # Errors
-///
-/// Want of memory.
-pub fn sequencer(alloc: Global, seq: Seq) -> Result<String, AllocError> {
+/// Appends a sequencer: `pc=`, `r=`, `sp=` and `stack=`, whose words have commas between, the oldest first.
+pub fn push_sequencer(report: &mut Report, seq: Seq) {
     let Seq {
         pc,
         r,
@@ -45,114 +23,94 @@ pub fn sequencer(alloc: Global, seq: Seq) -> Result<String, AllocError> {
         sp,
         depth,
     } = seq;
-    let words = addresses(alloc, &stack[..usize::from(depth)])?;
-    format!(in alloc; "pc={pc:x} r={r:x} sp={sp} stack={words}")
+    report.push_named(b"pc=", u64::from(pc));
+    report.push_named(b" r=", u64::from(r));
+    report.push_named(b" sp=", u64::from(sp));
+    report.push(b" stack=");
+    push_addresses(report, &stack[..usize::from(depth)]);
 }
 
-/// Which words of a state a list has.
-#[derive(Clone, Copy)]
-enum Words {
-    Registers,
-    Memory,
-}
-
-/// The words of a list that aren't 0, each by its name and with a blank before it.
-fn named_words(alloc: Global, which: Words, words: &[u32]) -> Result<String, AllocError> {
-    let mut text = String::new(alloc);
-    for (place, &word) in words.iter().enumerate() {
-        if word != 0 {
-            let named = match which {
-                Words::Registers => format!(in alloc; " r{place}={word:x}")?,
-                Words::Memory => format!(in alloc; " mem{place:x}={word:x}")?,
-            };
-            text.push_str(&named)?;
+/// Appends the registers that aren't 0, each by its name and with a blank before it.
+fn push_registers(report: &mut Report, registers: &[u32]) {
+    for (number, &value) in registers.iter().enumerate() {
+        if value != 0 {
+            report.push(b" r");
+            report.push_decimal(number as u64);
+            report.push_named(b"=", u64::from(value));
         }
     }
-    Ok(text)
 }
 
-/// The words of a memory that aren't 0, each by its name and with a blank before it.
-///
-/// # Errors
-///
-/// Want of memory.
-pub fn memory(alloc: Global, words: &[u32]) -> Result<String, AllocError> {
-    named_words(alloc, Words::Memory, words)
-}
-
-/// A state: `at=`, the registers, `q=`, `mar=`, `ir=`, `flips=`, the sequencer and the memory.
-///
-/// # Errors
-///
-/// Want of memory.
-pub fn state(alloc: Global, state: &State) -> Result<String, AllocError> {
-    let State {
-        at,
-        q,
-        mar,
-        ir,
-        flips,
-        ..
-    } = state;
-    let registers = named_words(alloc, Words::Registers, &state.regs)?;
-    let memory = memory(alloc, &state.memory)?;
-    let sequencer = sequencer(alloc, state.seq)?;
-    format!(in alloc;
-        "at={at:x}{registers} q={q:x} mar={mar:x} ir={ir:x} flips={flips:x} {sequencer}{memory}"
-    )
-}
-
-/// An event: `none`, `out:` and the word that was put, or `taken:` and the word that was taken.
-///
-/// # Errors
-///
-/// Want of memory.
-pub fn event(alloc: Global, event: Option<Event>) -> Result<String, AllocError> {
-    match event {
-        None => String::from_str(alloc, "none"),
-        Some(Event::Out(value)) => format!(in alloc; "out:{value:x}"),
-        Some(Event::Taken(value)) => format!(in alloc; "taken:{value:x}"),
+/// Appends the word of a memory at an address, by its name and with a blank before it, unless it is 0.
+pub fn push_memory_word(report: &mut Report, address: usize, word: u32) {
+    if word != 0 {
+        report.push_named(b" mem", address as u64);
+        report.push_named(b"=", u64::from(word));
     }
 }
 
-/// A microword.
-fn microword(alloc: Global, word: u128) -> Result<String, AllocError> {
+/// Appends the words of a memory that aren't 0.
+pub fn push_memory(report: &mut Report, words: &[u32]) {
+    for (address, &word) in words.iter().enumerate() {
+        push_memory_word(report, address, word);
+    }
+}
+
+/// Appends a state: `at=`, the registers, `q=`, `mar=`, `ir=`, `flips=`, the sequencer and the memory.
+pub fn push_state(report: &mut Report, state: &State) {
+    report.push_named(b"at=", u64::from(state.at));
+    push_registers(report, &state.regs);
+    report.push_named(b" q=", u64::from(state.q));
+    report.push_named(b" mar=", u64::from(state.mar));
+    report.push_named(b" ir=", u64::from(state.ir));
+    report.push_named(b" flips=", u64::from(state.flips));
+    report.push(b" ");
+    push_sequencer(report, state.seq);
+    push_memory(report, &state.memory);
+}
+
+/// Appends an event: `none`, `out:` and the word that was put, or `taken:` and the word that was taken.
+pub fn push_event(report: &mut Report, event: Option<Event>) {
+    match event {
+        None => report.push(b"none"),
+        Some(Event::Out(value)) => report.push_named(b"out:", u64::from(value)),
+        Some(Event::Taken(value)) => report.push_named(b"taken:", u64::from(value)),
+    }
+}
+
+/// Appends a microword.
+fn push_microword(report: &mut Report, word: u128) {
     let high = (word >> 64) as u64;
     let low = (word & 0xffff_ffff_ffff_ffff) as u64;
     if high == 0 {
-        format!(in alloc; "{low:x}")
+        report.push_digits(low);
     } else {
-        format!(in alloc; "{high:x}{low:016x}")
+        report.push_digits(high);
+        report.push_all_digits(low);
     }
 }
 
-/// The nets of a cycle: its microword, the ALU's inputs and answers, the test, the next address and the event.
-///
-/// # Errors
-///
-/// Want of memory.
-pub fn nets(alloc: Global, nets: &Nets) -> Result<String, AllocError> {
-    let Nets {
-        a,
-        b,
-        d,
-        f,
-        y,
-        next,
-        ..
-    } = nets;
-    let word = microword(alloc, nets.word)?;
-    let cin = u8::from(nets.cin);
-    let carry = u8::from(nets.carry);
-    let overflow = u8::from(nets.overflow);
-    let zero = u8::from(nets.zero);
-    let sign = u8::from(nets.sign);
-    let pass = u8::from(nets.pass);
-    let event = event(alloc, nets.event)?;
-    let bits = format!(in alloc;
-        "cin={cin} carry={carry} overflow={overflow} zero={zero} sign={sign} pass={pass}"
-    )?;
-    format!(in alloc;
-        "word={word} a={a:x} b={b:x} d={d:x} f={f:x} y={y:x} {bits} next={next:x} event={event}"
-    )
+/// Appends a name and a bit.
+fn push_bit(report: &mut Report, name: &[u8], bit: bool) {
+    report.push_named(name, u64::from(bit));
+}
+
+/// Appends the nets of a cycle: its microword, the ALU's inputs and answers, the test, the next address and the event.
+pub fn push_nets(report: &mut Report, nets: &Nets) {
+    report.push(b"word=");
+    push_microword(report, nets.word);
+    report.push_named(b" a=", u64::from(nets.a));
+    report.push_named(b" b=", u64::from(nets.b));
+    report.push_named(b" d=", u64::from(nets.d));
+    report.push_named(b" f=", u64::from(nets.f));
+    report.push_named(b" y=", u64::from(nets.y));
+    push_bit(report, b" cin=", nets.cin);
+    push_bit(report, b" carry=", nets.carry);
+    push_bit(report, b" overflow=", nets.overflow);
+    push_bit(report, b" zero=", nets.zero);
+    push_bit(report, b" sign=", nets.sign);
+    push_bit(report, b" pass=", nets.pass);
+    report.push_named(b" next=", u64::from(nets.next));
+    report.push(b" event=");
+    push_event(report, nets.event);
 }

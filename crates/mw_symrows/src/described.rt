@@ -9,14 +9,14 @@ ghost use Rattle.mw_macro.specs.Described.{description_of};
 ghost use Rattle.mw_symmach.specs.Turns.{is_asked};
 ghost use Rattle.mw_symrows.specs.StepRuns.{IsEnded, IsUnderway};
 
-use crate::listed::words_line;
+use crate::listed::push_words;
 use crate::stepping::{MemoryWord, Scene, StepRun};
 use crate::valued::{SymbolicStop, numbered, set, value};
 use mw_macro::Machine;
 use mw_rowfile::named::{bit, hexadecimal, word};
-use mw_rowfile::{Fault, wrong};
+use mw_rowfile::{Fault, Report, wrong};
 use mw_symmem::SymEvent;
-use mw_term::{Assignment, WordKind};
+use mw_term::{Assignment, Term, WordKind};
 use std::alloc::Global;
 
 /// What is printed of a step.
@@ -127,48 +127,61 @@ impl Setting {
         }
     }
 
-    /// The assignment of the variables of registers and of the request.
-    fn assignment(&self, alloc: Global, run: &StepRun) -> Result<Assignment, SymbolicStop> {
-        let mut given = Assignment::new(alloc);
+    /// What all words of a call say.
+    fn take_all(&mut self, machine: &Machine, given: &[String]) -> Result<(), Fault> {
+        for word in given {
+            self.take(machine, word)?;
+        }
+        Ok(())
+    }
+
+    /// Gives the variables of registers and of the request their values.
+    fn assign(
+        &self,
+        alloc: Global,
+        run: &StepRun,
+        given: &mut Assignment,
+    ) -> Result<(), SymbolicStop> {
         for (number, &value) in self.registers.iter().enumerate() {
             let kind = WordKind::Element(numbered(number)?);
-            set(alloc, &mut given, &run.words, kind, value)?;
+            set(alloc, given, &run.words, kind, value)?;
         }
         let request = u32::from(self.request);
-        set(alloc, &mut given, &run.words, WordKind::Line(0), request)?;
-        Ok(given)
+        set(alloc, given, &run.words, WordKind::Line(0), request)
     }
 }
 
 /// What the words of a call say.
 fn setting_of(alloc: Global, machine: &Machine, given: &[String]) -> Result<Setting, Fault> {
     let mut setting = Setting::new(alloc, machine)?;
-    for word in given {
-        setting.take(machine, word)?;
+    match setting.take_all(machine, given) {
+        Ok(()) => Ok(setting),
+        Err(fault) => {
+            drop(setting);
+            Err(fault)
+        }
     }
-    Ok(setting)
 }
 
 /// Appends the registers.
 fn push_registers(
     alloc: Global,
-    report: &mut Vec<u8>,
+    report: &mut Report,
     machine: &Machine,
     run: &StepRun,
     given: &Assignment,
 ) -> Result<(), SymbolicStop>
     requires { IsEnded (description_of machine.now) run.now.terms run.now.words run.now.memory run.now.step }
 {
-    report.extend_from_slice(b"registers")?;
+    report.push(b"registers");
     for number in 0..machine.registers() {
         let value = run.register(alloc, machine, number, given)?;
         let Some(name) = machine.names().get(number as usize) else {
             return Err(SymbolicStop::Unlike);
         };
-        let value = format!(in alloc; "={value:x}")?;
-        report.push(b' ')?;
-        report.extend_from_slice(name.as_slice())?;
-        report.extend_from_slice(value.as_bytes())?;
+        report.push(b" ");
+        report.push(name.as_slice());
+        report.push_named(b"=", u64::from(value));
     }
     Ok(())
 }
@@ -176,7 +189,7 @@ fn push_registers(
 /// Appends the memory's words at the addresses that are named.
 fn push_memory(
     alloc: Global,
-    report: &mut Vec<u8>,
+    report: &mut Report,
     machine: &Machine,
     places: &[MemoryWord],
     bases: u32,
@@ -185,135 +198,190 @@ fn push_memory(
 ) -> Result<(), SymbolicStop>
     requires { IsEnded (description_of machine.now) run.old.terms run.old.words run.old.memory run.old.step }
 {
-    report.extend_from_slice(b"\nmemory")?;
+    report.push(b"\nmemory");
     let read = run.read(alloc, machine)?;
     for place in places {
         let word = run.word(alloc, *place, bases, read, given)?;
-        let address = place.address;
-        let part = format!(in alloc; " {address:x}={word:x}")?;
-        report.extend_from_slice(part.as_bytes())?;
+        report.push_named(b" ", u64::from(place.address));
+        report.push_named(b"=", u64::from(word));
     }
     Ok(())
 }
 
-/// An event, with a blank before it.
-fn event_text(
+/// Appends an event, with a blank before it.
+fn push_event(
     alloc: Global,
+    report: &mut Report,
     run: &StepRun,
     event: SymEvent,
     given: &Assignment,
-) -> Result<String, SymbolicStop> {
-    let text = match event {
-        SymEvent::Out(term) => {
-            let word = value(alloc, &run.terms, term, given)?;
-            format!(in alloc; " out:{word:x}")?
-        }
-        SymEvent::Taken(term) => {
-            let word = value(alloc, &run.terms, term, given)?;
-            format!(in alloc; " taken:{word:x}")?
-        }
+) -> Result<(), SymbolicStop> {
+    let (name, term): (&[u8], Term) = match event {
+        SymEvent::Out(term) => (b" out:", term),
+        SymEvent::Taken(term) => (b" taken:", term),
     };
-    Ok(text)
+    let word = value(alloc, &run.terms, term, given)?;
+    report.push_named(name, u64::from(word));
+    Ok(())
 }
 
-/// The line of the events.
-fn events_line(alloc: Global, run: &StepRun, given: &Assignment) -> Result<String, SymbolicStop> {
-    let mut line = String::from_str(alloc, "events")?;
-    for event in run.step.events() {
-        line.push_str(&event_text(alloc, run, *event, given)?)?;
-    }
-    Ok(line)
-}
-
-/// The line of the branch bits.
-fn branches_line(alloc: Global, bits: &[bool]) -> Result<String, SymbolicStop> {
-    let mut line = String::from_str(alloc, "branches")?;
-    for bit in bits {
-        line.push_str(if *bit { " 1" } else { " 0" })?;
-    }
-    Ok(line)
-}
-
-/// The lines of what a step came to, which has so many base reads and these branch bits.
-fn state_lines(
+/// Appends the line of the events.
+fn push_events(
     alloc: Global,
+    report: &mut Report,
+    run: &StepRun,
+    given: &Assignment,
+) -> Result<(), SymbolicStop> {
+    report.push(b"\nevents");
+    for event in run.step.events() {
+        push_event(alloc, report, run, *event, given)?;
+    }
+    Ok(())
+}
+
+/// Appends the line of how many inputs were taken.
+fn push_inputs(report: &mut Report, run: &StepRun) -> Result<(), SymbolicStop> {
+    let inputs = run.inputs()?;
+    report.push(b"\ninputs ");
+    report.push_decimal(u64::from(inputs));
+    Ok(())
+}
+
+/// Appends the line of the branch bits.
+fn push_branches(report: &mut Report, bits: &[bool]) {
+    report.push(b"\nbranches");
+    for &bit in bits {
+        report.push(if bit { b" 1" } else { b" 0" });
+    }
+    report.push(b"\n");
+}
+
+/// Appends the lines of what a step came to, which has so many base reads and these branch bits.
+fn push_state(
+    alloc: Global,
+    report: &mut Report,
     machine: &Machine,
     places: &[MemoryWord],
     run: &mut StepRun,
     given: &mut Assignment,
     bases: u32,
     bits: &[bool],
-) -> Result<Vec<u8>, SymbolicStop>
+) -> Result<(), SymbolicStop>
     requires { IsEnded (description_of machine.now) run.old.terms run.old.words run.old.memory run.old.step }
 {
-    let mut report = Vec::new(alloc);
-    push_registers(alloc, &mut report, machine, run, given)?;
-    let events = events_line(alloc, run, given)?;
-    let inputs = run.inputs()?;
-    let branches = branches_line(alloc, bits)?;
-    push_memory(alloc, &mut report, machine, places, bases, run, given)?;
-    let rest = format!(in alloc; "\n{events}\ninputs {inputs}\n{branches}\n")?;
-    report.extend_from_slice(rest.as_bytes())?;
-    Ok(report)
+    push_registers(alloc, report, machine, run, given)?;
+    push_memory(alloc, report, machine, places, bases, run, given)?;
+    push_events(alloc, report, run, given)?;
+    push_inputs(report, run)?;
+    push_branches(report, bits);
+    Ok(())
 }
 
-/// The line of the words behind the first ones, so many.
-fn words_report(alloc: Global, run: &StepRun, first: u64) -> Result<Vec<u8>, SymbolicStop> {
-    let line = words_line(alloc, &run.terms, &run.words, first)?;
-    Ok(Vec::from_slice(alloc, line.as_bytes())?)
-}
-
-/// What a step that isn't begun comes to.
-fn report_of(
+/// Appends what a step that isn't begun comes to, where variables have the values of this assignment.
+fn push_step(
     alloc: Global,
+    report: &mut Report,
     machine: &Machine,
     setting: &Setting,
     run: &mut StepRun,
+    given: &mut Assignment,
     printed: Printed,
-) -> Result<Vec<u8>, SymbolicStop>
+) -> Result<(), SymbolicStop>
     requires under { IsUnderway (description_of machine.now) run.old.terms run.old.words run.old.memory run.old.step }
     requires idle { is_asked run.old.step.pending ≡ false }
 {
     let first = run.words.count();
     let scene = &setting.scene;
-    let mut given = setting.assignment(alloc, run)?;
+    setting.assign(alloc, run, given)?;
     let mut bits = Vec::new(alloc);
-    let bases = run.run(alloc, machine, scene, &mut given, &mut bits)?;
+    let bases = run.run(alloc, machine, scene, given, &mut bits)?;
     match printed {
         Printed::State => {
-            state_lines(alloc, machine, &scene.memory, run, &mut given, bases, &bits)
+            push_state(
+                alloc,
+                report,
+                machine,
+                &scene.memory,
+                run,
+                given,
+                bases,
+                &bits,
+            )
         }
-        Printed::Words => words_report(alloc, run, first),
+        Printed::Words => push_words(report, &run.terms, &run.words, first),
     }
 }
 
-/// A step of a machine with what the words of a call give it.
-fn stepped(
+/// Appends what a step that isn't begun comes to.
+fn push_run(
     alloc: Global,
+    report: &mut Report,
+    machine: &Machine,
+    setting: &Setting,
+    run: &mut StepRun,
+    printed: Printed,
+) -> Result<(), SymbolicStop>
+    requires under { IsUnderway (description_of machine.now) run.old.terms run.old.words run.old.memory run.old.step }
+    requires idle { is_asked run.old.step.pending ≡ false }
+{
+    let mut given = Assignment::new(alloc);
+    let outcome = push_step(alloc, report, machine, setting, run, &mut given, printed);
+    drop(given);
+    outcome
+}
+
+/// Appends what a step of a machine comes to with what the words of a call give it.
+fn push_setting(
+    alloc: Global,
+    report: &mut Report,
+    machine: &Machine,
+    setting: &Setting,
+    printed: Printed,
+) -> Result<(), SymbolicStop> {
+    let mut run = StepRun::new(alloc, machine)?;
+    let outcome = push_run(alloc, report, machine, setting, &mut run, printed);
+    drop(run);
+    outcome
+}
+
+/// Appends what a step of a machine comes to with what the words of a call say.
+fn push_stepped(
+    alloc: Global,
+    report: &mut Report,
     machine: &Machine,
     given: &[String],
     printed: Printed,
-) -> Result<Vec<u8>, Fault> {
+) -> Result<(), Fault> {
     let setting = setting_of(alloc, machine, given)?;
-    let mut run = StepRun::new(alloc, machine)?;
-    let report = report_of(alloc, machine, &setting, &mut run, printed)?;
-    Ok(report)
+    let outcome = push_setting(alloc, report, machine, &setting, printed);
+    drop(setting);
+    Ok(outcome?)
 }
 
-/// What a step of a machine comes to.
+/// Appends what a step of a machine comes to.
 ///
 /// # Errors
 ///
 /// Words that aren't what the call reads, and want of memory.
-pub fn run(alloc: Global, given: &[String], machine: &Machine) -> Result<Vec<u8>, Fault> {
-    stepped(alloc, machine, given, Printed::State)
+pub fn run(
+    alloc: Global,
+    report: &mut Report,
+    given: &[String],
+    machine: &Machine,
+) -> Result<(), Fault> {
+    push_stepped(alloc, report, machine, given, Printed::State)
 }
 
-/// The words that this step adds.
+/// Appends the words that this step adds.
 ///
 /// # Errors
 ///
 /// As `run`.
-pub fn words(alloc: Global, given: &[String], machine: &Machine) -> Result<Vec<u8>, Fault> {
-    stepped(alloc, machine, given, Printed::Words)
+pub fn words(
+    alloc: Global,
+    report: &mut Report,
+    given: &[String],
+    machine: &Machine,
+) -> Result<(), Fault> {
+    push_stepped(alloc, report, machine, given, Printed::Words)
 }

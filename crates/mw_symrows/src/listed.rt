@@ -1,9 +1,9 @@
 // Words as texts, a token each: `sum(w14,w15,0'1)`. A variable stands by its kind, the kind's number and its width, as
 // `line(0,1)`. An operand is `wN`, the word of number N, or `VALUE'WIDTH`, a constant. All numbers are decimal.
 use crate::valued::SymbolicStop;
+use mw_rowfile::Report;
 use mw_symmem::Words;
 use mw_term::{Op, Term, WordKind, Written, terms_have_widths};
-use std::alloc::Global;
 
 /// The number behind the greatest one that a variable of a kind has here.
 const KINDS_END: u32 = 4097;
@@ -18,50 +18,76 @@ fn op_of(terms: &Written, term: Term) -> Option<Op> {
     }
 }
 
-/// An operand.
-fn operand(
-    alloc: Global,
+/// Appends an operand.
+fn push_operand(
+    report: &mut Report,
     terms: &Written,
     words: &Words,
     term: Term,
-) -> Result<String, SymbolicStop> {
+) -> Result<(), SymbolicStop> {
     if let Some(Op::Con(value, width)) = op_of(terms, term) {
-        return Ok(format!(in alloc; "{value}'{width}")?);
+        report.push_decimal(u64::from(value));
+        report.push(b"'");
+        report.push_decimal(u64::from(width));
+        return Ok(());
     }
     match words.word_of(term) {
-        Some(number) => Ok(format!(in alloc; "w{number}")?),
+        Some(number) => {
+            report.push(b"w");
+            report.push_decimal(number);
+            Ok(())
+        }
         None => Err(SymbolicStop::Unlike),
     }
 }
 
-/// An operation on these operands.
-fn operation(
-    alloc: Global,
+/// Appends an operation on these operands.
+fn push_operation(
+    report: &mut Report,
     terms: &Written,
     words: &Words,
-    name: &str,
+    name: &[u8],
     operands: &[Term],
-) -> Result<String, SymbolicStop> {
-    let mut text = String::from_str(alloc, name)?;
-    let mut before = "(";
+) -> Result<(), SymbolicStop> {
+    report.push(name);
+    let mut before: &[u8] = b"(";
     for term in operands {
-        text.push_str(before)?;
-        text.push_str(&operand(alloc, terms, words, *term)?)?;
-        before = ",";
+        report.push(before);
+        push_operand(report, terms, words, *term)?;
+        before = b",";
     }
-    text.push_str(")")?;
-    Ok(text)
+    report.push(b")");
+    Ok(())
+}
+
+/// Appends a part of a word.
+fn push_part(
+    report: &mut Report,
+    terms: &Written,
+    words: &Words,
+    term: Term,
+    low: u8,
+    width: u8,
+) -> Result<(), SymbolicStop> {
+    report.push(b"part(");
+    push_operand(report, terms, words, term)?;
+    report.push(b",");
+    report.push_decimal(u64::from(low));
+    report.push(b",");
+    report.push_decimal(u64::from(width));
+    report.push(b")");
+    Ok(())
 }
 
 /// Of which kind a variable is, if the kind has this number.
-fn kind_name(words: &Words, term: Term, number: u32) -> Option<&'static str> {
-    let kinds = [
-        ("element", WordKind::Element(number)),
-        ("line", WordKind::Line(number)),
-        ("noise", WordKind::Noise(number)),
-        ("base", WordKind::Base(number)),
-        ("input", WordKind::Input(number)),
-        ("probe", WordKind::Probe),
+fn kind_name(words: &Words, term: Term, number: u32) -> Option<&'static [u8]> {
+    let kinds: [(&'static [u8], WordKind); 6] = [
+        (b"element", WordKind::Element(number)),
+        (b"line", WordKind::Line(number)),
+        (b"noise", WordKind::Noise(number)),
+        (b"base", WordKind::Base(number)),
+        (b"input", WordKind::Input(number)),
+        (b"probe", WordKind::Probe),
     ];
     for (name, kind) in kinds {
         if words.find(kind) == Some(term) {
@@ -71,45 +97,52 @@ fn kind_name(words: &Words, term: Term, number: u32) -> Option<&'static str> {
     None
 }
 
-/// A variable.
-fn variable(alloc: Global, words: &Words, term: Term, width: u8) -> Result<String, SymbolicStop> {
+/// Appends a variable.
+fn push_variable(
+    report: &mut Report,
+    words: &Words,
+    term: Term,
+    width: u8,
+) -> Result<(), SymbolicStop> {
     for number in 0..KINDS_END {
         if let Some(name) = kind_name(words, term, number) {
-            return Ok(format!(in alloc; "{name}({number},{width})")?);
+            report.push(name);
+            report.push(b"(");
+            report.push_decimal(u64::from(number));
+            report.push(b",");
+            report.push_decimal(u64::from(width));
+            report.push(b")");
+            return Ok(());
         }
     }
     Err(SymbolicStop::Unlike)
 }
 
-/// A word, by its term and its op.
-fn word_text(
-    alloc: Global,
+/// Appends a word, by its term and its op.
+fn push_word(
+    report: &mut Report,
     terms: &Written,
     words: &Words,
     term: Term,
     op: Op,
-) -> Result<String, SymbolicStop> {
-    let (name, operands) = match op {
-        Op::Con(..) => return Err(SymbolicStop::Unlike),
-        Op::Var(_, width) => return variable(alloc, words, term, width),
-        Op::Part(a, low, width) => {
-            let a = operand(alloc, terms, words, a)?;
-            return Ok(format!(in alloc; "part({a},{low},{width})")?);
-        }
-        Op::Not(a) => ("not", vec![in alloc; a]?),
-        Op::And(a, b) => ("and", vec![in alloc; a, b]?),
-        Op::Or(a, b) => ("or", vec![in alloc; a, b]?),
-        Op::Xor(a, b) => ("xor", vec![in alloc; a, b]?),
-        Op::Sum(a, b, c) => ("sum", vec![in alloc; a, b, c]?),
-        Op::Cout(a, b, c) => ("cout", vec![in alloc; a, b, c]?),
-        Op::Ovf(a, b, c) => ("ovf", vec![in alloc; a, b, c]?),
-        Op::Eq(a, b) => ("eq", vec![in alloc; a, b]?),
-        Op::Lt(a, b) => ("lt", vec![in alloc; a, b]?),
-        Op::Ite(c, a, b) => ("ite", vec![in alloc; c, a, b]?),
-        Op::Join(high, low) => ("join", vec![in alloc; high, low]?),
-        Op::Tab(a) => ("tab", vec![in alloc; a]?),
-    };
-    operation(alloc, terms, words, name, &operands)
+) -> Result<(), SymbolicStop> {
+    match op {
+        Op::Con(..) => Err(SymbolicStop::Unlike),
+        Op::Var(_, width) => push_variable(report, words, term, width),
+        Op::Part(a, low, width) => push_part(report, terms, words, a, low, width),
+        Op::Not(a) => push_operation(report, terms, words, b"not", &[a]),
+        Op::And(a, b) => push_operation(report, terms, words, b"and", &[a, b]),
+        Op::Or(a, b) => push_operation(report, terms, words, b"or", &[a, b]),
+        Op::Xor(a, b) => push_operation(report, terms, words, b"xor", &[a, b]),
+        Op::Sum(a, b, c) => push_operation(report, terms, words, b"sum", &[a, b, c]),
+        Op::Cout(a, b, c) => push_operation(report, terms, words, b"cout", &[a, b, c]),
+        Op::Ovf(a, b, c) => push_operation(report, terms, words, b"ovf", &[a, b, c]),
+        Op::Eq(a, b) => push_operation(report, terms, words, b"eq", &[a, b]),
+        Op::Lt(a, b) => push_operation(report, terms, words, b"lt", &[a, b]),
+        Op::Ite(c, a, b) => push_operation(report, terms, words, b"ite", &[c, a, b]),
+        Op::Join(high, low) => push_operation(report, terms, words, b"join", &[high, low]),
+        Op::Tab(a) => push_operation(report, terms, words, b"tab", &[a]),
+    }
 }
 
 /// Whether a term is a word behind the first ones, so many.
@@ -120,27 +153,27 @@ fn is_behind(words: &Words, term: Term, first: u64) -> bool {
     }
 }
 
-/// The line of the words behind the first ones, so many: `words`, and then each with a blank before it.
+/// Appends the line of the words behind the first ones, so many: `words`, and then each with a blank before it.
 ///
 /// # Errors
 ///
-/// A word that isn't as in one run, and want of memory.
-pub fn words_line(
-    alloc: Global,
+/// A word that isn't as in one run.
+pub fn push_words(
+    report: &mut Report,
     terms: &Written,
     words: &Words,
     first: u64,
-) -> Result<String, SymbolicStop> {
-    let mut line = String::from_str(alloc, "words")?;
+) -> Result<(), SymbolicStop> {
+    report.push(b"words");
     for position in 0..u32::MAX {
         let term = Term::at(position);
         let Some(op) = op_of(terms, term) else {
-            line.push_str("\n")?;
-            return Ok(line);
+            report.push(b"\n");
+            return Ok(());
         };
         if is_behind(words, term, first) {
-            line.push_str(" ")?;
-            line.push_str(&word_text(alloc, terms, words, term, op)?)?;
+            report.push(b" ");
+            push_word(report, terms, words, term, op)?;
         }
     }
     Err(SymbolicStop::Unlike)

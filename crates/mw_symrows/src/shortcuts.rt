@@ -7,7 +7,7 @@
 ghost use Rattle.mw_term.specs.Hints.{IsRight};
 ghost use Rattle.mw_term.specs.Table.{Fits};
 
-use mw_rowfile::{Fault, wrong};
+use mw_rowfile::{Fault, Report, wrong};
 use mw_short::{
     all_constant, double_not, fixed_choice, neutral_constant, part_of_join, same_operands,
 };
@@ -128,56 +128,93 @@ fn op_in(alloc: Global, text: &str) -> Result<Op, Fault> {
     }
 }
 
-/// A hint.
-fn hint_text(alloc: Global, hint: Hint) -> Result<String, Fault> {
-    let text = match hint {
-        Hint::Nothing => String::from_str(alloc, "nothing")?,
-        Hint::Constant(number) => format!(in alloc; "constant({number})")?,
-        Hint::Operand(place) => format!(in alloc; "operand({place})")?,
-        Hint::Inner(place, inner) => format!(in alloc; "inner({place},{inner})")?,
-    };
-    Ok(text)
+/// Appends a hint.
+fn push_hint(report: &mut Report, hint: Hint) {
+    match hint {
+        Hint::Nothing => report.push(b"nothing"),
+        Hint::Constant(number) => {
+            report.push(b"constant(");
+            report.push_decimal(u64::from(number));
+            report.push(b")");
+        }
+        Hint::Operand(place) => {
+            report.push(b"operand(");
+            report.push_decimal(u64::from(place));
+            report.push(b")");
+        }
+        Hint::Inner(place, inner) => {
+            report.push(b"inner(");
+            report.push_decimal(u64::from(place));
+            report.push(b",");
+            report.push_decimal(u64::from(inner));
+            report.push(b")");
+        }
+    }
 }
 
-/// What each shortcut hints of an op.
-fn hints_of(alloc: Global, rules: &[Rule], terms: &Terms, op: Op) -> Result<String, Fault> {
+/// Appends what each shortcut hints of an op.
+fn push_hints(report: &mut Report, rules: &[Rule], terms: &Terms, op: Op) -> Result<(), Fault> {
     if !terms.fits(&op) {
         return Err(wrong("the op doesn't fit"));
     }
-    let mut line = String::from_str(alloc, "hints")?;
+    report.push(b"hints");
     for rule in rules {
-        let hint = hint_text(alloc, rule.hint(terms, op))?;
-        line.push_str(" ")?;
-        line.push_str(&hint)?;
+        report.push(b" ");
+        push_hint(report, rule.hint(terms, op));
     }
-    Ok(line)
+    Ok(())
 }
 
-/// Builds a term of an op.
-fn built(alloc: Global, terms: &mut Terms, op: Op, book: &ShortcutBook) -> Result<String, Fault> {
+/// Builds a term of an op, and appends its number.
+fn push_built(
+    alloc: Global,
+    report: &mut Report,
+    terms: &mut Terms,
+    op: Op,
+    book: &ShortcutBook,
+) -> Result<(), Fault> {
     if !terms.fits(&op) {
         return Err(wrong("the op doesn't fit"));
     }
     let term = terms.build(alloc, op, book)?;
-    let number = term.position();
-    let hinted = if terms.op(term) == op { "" } else { " hinted" };
-    Ok(format!(in alloc; "{number}{hinted}")?)
+    report.push_decimal(term.position() as u64);
+    if terms.op(term) != op {
+        report.push(b" hinted");
+    }
+    Ok(())
 }
 
-/// What a line gives.
-fn line_of(
+/// Appends what a line gives.
+fn push_line(
     alloc: Global,
+    report: &mut Report,
     rules: &[Rule],
     terms: &mut Terms,
     text: &str,
     book: &ShortcutBook,
-) -> Result<String, Fault> {
+) -> Result<(), Fault> {
     let asked = text.strip_prefix("hints ");
     match op_in(alloc, asked.unwrap_or(text)) {
-        Ok(op) if asked.is_some() => hints_of(alloc, rules, terms, op),
-        Ok(op) => built(alloc, terms, op, book),
+        Ok(op) if asked.is_some() => push_hints(report, rules, terms, op),
+        Ok(op) => push_built(alloc, report, terms, op, book),
         Err(fault) => Err(fault),
     }
+}
+
+/// Appends what the lines of a text give.
+fn push_lines(
+    alloc: Global,
+    report: &mut Report,
+    rules: &[Rule],
+    terms: &mut Terms,
+    text: &str,
+    book: &ShortcutBook,
+) -> Result<(), Fault> {
+    for line in text.lines() {
+        push_line(alloc, report, rules, terms, line, book)?;
+        report.push(b"\n");
+    }
+    Ok(())
 }
 
 /// The shortcuts of some names.
@@ -189,12 +226,26 @@ fn rules_of(alloc: Global, names: &[String]) -> Result<Vec<Rule>, Fault> {
     Ok(rules)
 }
 
-/// What the lines of a text give, by the shortcuts of these names.
+/// Appends what the lines of a text give, in a table of their own.
+fn push_text(
+    alloc: Global,
+    report: &mut Report,
+    rules: &[Rule],
+    text: &str,
+    book: &ShortcutBook,
+) -> Result<(), Fault> {
+    let mut terms = Terms::new(alloc, &[])?;
+    let outcome = push_lines(alloc, report, rules, &mut terms, text, book);
+    drop(terms);
+    outcome
+}
+
+/// Appends what the lines of a text give, by the shortcuts of these names.
 ///
 /// # Errors
 ///
 /// A name or a line that isn't right, and want of memory.
-pub fn run(alloc: Global, names: &[String], text: &str) -> Result<Vec<u8>, Fault> {
+pub fn run(alloc: Global, report: &mut Report, names: &[String], text: &str) -> Result<(), Fault> {
     let rules = rules_of(alloc, names)?;
     let mut book = ShortcutBook::new(alloc);
     for rule in &rules {
@@ -205,12 +256,7 @@ pub fn run(alloc: Global, names: &[String], text: &str) -> Result<Vec<u8>, Fault
         { rule.hint(terms, op) };
         book.add(alloc, Box::new(alloc, hint)?)?;
     }
-    let mut terms = Terms::new(alloc, &[])?;
-    let mut report = Vec::new(alloc);
-    for line in text.lines() {
-        let line = line_of(alloc, &rules, &mut terms, line, &book)?;
-        report.extend_from_slice(line.as_bytes())?;
-        report.push(b'\n')?;
-    }
-    Ok(report)
+    let outcome = push_text(alloc, report, &rules, text, &book);
+    drop(book);
+    outcome
 }

@@ -3,20 +3,19 @@
 // asks for has the value of its term. The state after the cycle; and the event of the cycle and its decided bits, each
 // by what it says. `call cycle-words noise= line= input=`: the words that this cycle adds. Before it there are a
 // variable for an address of the memory and one for each element, by their numbers.
-ghost use Rattle.std.specs.Prelude.{◌<◌, OnOk};
 ghost use Rattle.mw_cycle.specs.State.{Fits};
 ghost use Rattle.mw_term.specs.Table.{Table};
 ghost use Rattle.mw_symboard.specs.Parts.{AreParts};
 ghost use Rattle.mw_symrows.specs.Runs.{IsIdle, IsOver, IsUnder};
 
-use crate::listed::words_line;
+use crate::listed::push_words;
 use crate::valued::{SymbolicStop, numbered, value};
-use crate::workspace::{Bit, Outside, Run, assignment, element};
+use crate::workspace::{Bit, Outside, Run, assign, element};
 use mw_base::Event;
 use mw_board::{Board, Store};
 use mw_cycle::{CycleIn, Element, State, element_of};
 use mw_rowfile::states::{board_of, given_of, state_of, store_of};
-use mw_rowfile::{Fault, File, texts, wrong};
+use mw_rowfile::{Fault, File, Report, texts, wrong};
 use mw_symboard::SymBoard;
 use mw_symmem::SymEvent;
 use mw_term::{Assignment, DecidedKind, Written};
@@ -47,24 +46,27 @@ fn is_read(place: usize, word: u32, mar: u32) -> bool {
     }
 }
 
-/// The words of the memory after the cycle that aren't 0.
-fn memory_text(
+/// Appends the words of the memory after the cycle that aren't 0.
+fn push_memory(
     alloc: Global,
+    report: &mut Report,
     board: &Board,
     state: &State,
     run: &mut Run,
     given: &mut Assignment,
-) -> Result<String, SymbolicStop>
+) -> Result<(), SymbolicStop>
     requires { IsOver board.now run.old.terms run.old.words run.old.memory run.old.board }
 {
     let read = run.read(alloc, board)?;
-    let mut memory = Vec::from_slice(alloc, &state.memory)?;
-    for (place, word) in memory.iter_mut().enumerate() {
-        if is_read(place, *word, state.mar) {
-            *word = run.word(alloc, numbered(place)?, *word, read, given)?;
-        }
+    for (place, &word) in state.memory.iter().enumerate() {
+        let after = if is_read(place, word, state.mar) {
+            run.word(alloc, numbered(place)?, word, read, given)?
+        } else {
+            word
+        };
+        texts::push_memory_word(report, place, after);
     }
-    Ok(texts::memory(alloc, &memory)?)
+    Ok(())
 }
 
 /// The flip-flops so far, and the place of the next one.
@@ -74,152 +76,172 @@ struct Flips {
     next: u32,
 }
 
-/// Appends an element, or puts it to the flip-flops, which are printed as one. The elements come in the order of their
-/// numbers. Registers that are 0 aren't named.
-fn push_element(
-    alloc: Global,
-    text: &mut String,
-    flips: &mut Flips,
-    element: Element,
-    value: u32,
-) -> Result<(), SymbolicStop> {
-    let part = match element {
-        Element::Register(_) if value == 0 => return Ok(()),
-        Element::Register(number) => format!(in alloc; " r{number}={value:x}")?,
-        Element::Q => format!(in alloc; " q={value:x}")?,
-        Element::Mar => format!(in alloc; " mar={value:x}")?,
-        Element::Ir => format!(in alloc; " ir={value:x}")?,
-        Element::FlipFlop(_) => {
-            flips.so_far = flips.so_far.wrapping_add(flips.next.wrapping_mul(value));
-            flips.next = flips.next.wrapping_mul(2);
-            return Ok(());
-        }
-        Element::Pc => {
-            let flips = flips.so_far;
-            format!(in alloc; " flips={flips:x} pc={value:x}")?
-        }
-        Element::R => format!(in alloc; " r={value:x}")?,
-        Element::StackWord(0) => format!(in alloc; "{value:x}")?,
-        Element::StackWord(_) => format!(in alloc; ",{value:x}")?,
-    };
-    text.push_str(&part)?;
-    Ok(())
+impl Flips {
+    /// Takes one more.
+    fn take(&mut self, value: u32) {
+        self.so_far = self.so_far.wrapping_add(self.next.wrapping_mul(value));
+        self.next = self.next.wrapping_mul(2);
+    }
 }
 
-/// The control address, the elements and the stack pointer of a symbolic board over these terms.
-fn elements_text(
+/// Appends a register, unless it is 0.
+fn push_register(report: &mut Report, number: u8, value: u32) {
+    if value != 0 {
+        report.push(b" r");
+        report.push_decimal(u64::from(number));
+        report.push_named(b"=", u64::from(value));
+    }
+}
+
+/// Appends the flip-flops so far and PC, which comes behind them.
+fn push_pc(report: &mut Report, flips: u32, value: u32) {
+    report.push_named(b" flips=", u64::from(flips));
+    report.push_named(b" pc=", u64::from(value));
+}
+
+/// Appends a word of the stack. The pointer stands before the first one.
+fn push_stack_word(report: &mut Report, number: u8, value: u32, pointer: u8) {
+    if number == 0 {
+        report.push_named(b" sp=", u64::from(pointer));
+        report.push_named(b" stack=", u64::from(value));
+    } else {
+        report.push_named(b",", u64::from(value));
+    }
+}
+
+/// Appends an element, or puts it to the flip-flops, which are printed as one. The elements come in the order of their
+/// numbers.
+fn push_element(report: &mut Report, flips: &mut Flips, element: Element, value: u32, pointer: u8) {
+    match element {
+        Element::Register(number) => push_register(report, number, value),
+        Element::Q => report.push_named(b" q=", u64::from(value)),
+        Element::Mar => report.push_named(b" mar=", u64::from(value)),
+        Element::Ir => report.push_named(b" ir=", u64::from(value)),
+        Element::FlipFlop(_) => flips.take(value),
+        Element::Pc => push_pc(report, flips.so_far, value),
+        Element::R => report.push_named(b" r=", u64::from(value)),
+        Element::StackWord(number) => push_stack_word(report, number, value, pointer),
+    }
+}
+
+/// Appends the control address, the elements and the stack pointer of a symbolic board over these terms.
+fn push_elements(
     alloc: Global,
+    report: &mut Report,
     board: &Board,
     terms: &Written,
     symbolic: &SymBoard,
     given: &Assignment,
-) -> Result<String, SymbolicStop>
+) -> Result<(), SymbolicStop>
     requires { (t : Table) × AreParts board.now t symbolic.now.place.parts }
 {
-    let at = symbolic.at();
-    let sp = symbolic.sp();
-    let mut text = format!(in alloc; "at={at:x}")?;
+    let pointer = symbolic.sp();
+    report.push_named(b"at=", u64::from(symbolic.at()));
     let mut flips = Flips { so_far: 0, next: 1 };
     for number in 0..board.element_count() {
         let value = element(alloc, board, terms, symbolic, numbered(number)?, given)?;
-        let part = element_of(board, number);
-        if part == Element::StackWord(0) {
-            let pointer = format!(in alloc; " sp={sp} stack=")?;
-            text.push_str(&pointer)?;
-        }
-        push_element(alloc, &mut text, &mut flips, part, value)?;
+        push_element(
+            report,
+            &mut flips,
+            element_of(board, number),
+            value,
+            pointer,
+        );
     }
-    Ok(text)
+    Ok(())
 }
 
 /// The event of the cycle.
-fn event_text(alloc: Global, run: &Run, given: &Assignment) -> Result<String, SymbolicStop> {
-    let event = match run.board.events() {
-        [] => None,
-        [SymEvent::Out(term)] => Some(Event::Out(value(alloc, &run.terms, *term, given)?)),
-        [SymEvent::Taken(term)] => Some(Event::Taken(value(alloc, &run.terms, *term, given)?)),
-        _ => return Err(SymbolicStop::Unlike),
-    };
-    Ok(texts::event(alloc, event)?)
-}
-
-/// A decided bit, with a blank before it.
-fn bit_text(alloc: Global, bit: Bit) -> Result<String, SymbolicStop> {
-    let value = u8::from(bit.value);
-    let text = match bit.kind {
-        DecidedKind::Pass => format!(in alloc; " pass:{value}")?,
-        DecidedKind::CounterZero => format!(in alloc; " zero:{value}")?,
-        DecidedKind::Next(number) => format!(in alloc; " {number}:{value}")?,
-        DecidedKind::Branch => return Err(SymbolicStop::Unlike),
-    };
-    Ok(text)
-}
-
-/// Decided bits.
-fn bits_text(alloc: Global, bits: &[Bit]) -> Result<String, SymbolicStop> {
-    let mut text = String::new(alloc);
-    for bit in bits {
-        text.push_str(&bit_text(alloc, *bit)?)?;
+fn event_of(alloc: Global, run: &Run, given: &Assignment) -> Result<Option<Event>, SymbolicStop> {
+    match run.board.events() {
+        [] => Ok(None),
+        [SymEvent::Out(term)] => Ok(Some(Event::Out(value(alloc, &run.terms, *term, given)?))),
+        [SymEvent::Taken(term)] => Ok(Some(Event::Taken(value(alloc, &run.terms, *term, given)?))),
+        _ => Err(SymbolicStop::Unlike),
     }
-    Ok(text)
 }
 
-/// Runs the cycle, and prints its decided bits.
-fn decided(
-    alloc: Global,
-    board: &Board,
-    store: &Store,
-    outside: Outside,
-    run: &mut Run,
-    given: &mut Assignment,
-) -> Result<String, SymbolicStop>
-    requires under { IsUnder board.now store.now.words run.old.terms run.old.words run.old.memory run.old.board }
-    requires idle { IsIdle run.old.board 0 }
-    ensures { OnOk result (IsOver board.now run.new.terms run.new.words run.new.memory run.new.board) }
-{
-    let mut bits = Vec::new(alloc);
-    run.cycle(alloc, board, store, outside, given, &mut bits)?;
-    bits_text(alloc, &bits)
+/// Appends decided bits, each with a blank before it.
+fn push_bits(report: &mut Report, bits: &[Bit]) -> Result<(), SymbolicStop> {
+    for bit in bits {
+        report.push(b" ");
+        match bit.kind {
+            DecidedKind::Pass => report.push(b"pass"),
+            DecidedKind::CounterZero => report.push(b"zero"),
+            DecidedKind::Next(number) => report.push_decimal(u64::from(number)),
+            DecidedKind::Branch => return Err(SymbolicStop::Unlike),
+        }
+        report.push_named(b":", u64::from(bit.value));
+    }
+    Ok(())
 }
 
-/// The lines of the state after a cycle, its event and its decided bits.
-fn state_lines(
+/// Appends the lines of the state after a cycle, its event and its decided bits.
+fn push_state(
     alloc: Global,
+    report: &mut Report,
     board: &Board,
     state: &State,
     run: &mut Run,
     given: &mut Assignment,
-    bits: &str,
-) -> Result<String, SymbolicStop>
+    bits: &[Bit],
+) -> Result<(), SymbolicStop>
     requires { IsOver board.now run.old.terms run.old.words run.old.memory run.old.board }
 {
-    let elements = elements_text(alloc, board, &run.terms, &run.board, given)?;
-    let event = event_text(alloc, run, given)?;
-    let memory = memory_text(alloc, board, state, run, given)?;
-    Ok(format!(in alloc; "{elements}{memory}\nevent={event}{bits}\n")?)
+    let event = event_of(alloc, run, given)?;
+    push_elements(alloc, report, board, &run.terms, &run.board, given)?;
+    push_memory(alloc, report, board, state, run, given)?;
+    report.push(b"\nevent=");
+    texts::push_event(report, event);
+    push_bits(report, bits)?;
+    report.push(b"\n");
+    Ok(())
 }
 
-/// The cycle of a symbolic board that is made from a state.
-fn from_run(
+/// Appends the cycle of a symbolic board, where variables have the values of a state.
+fn push_cycle(
     alloc: Global,
+    report: &mut Report,
     board: &Board,
     store: &Store,
     state: &State,
     asked: Asked,
     run: &mut Run,
-) -> Result<String, SymbolicStop>
+    given: &mut Assignment,
+) -> Result<(), SymbolicStop>
     requires fits { Fits board.now state.now }
     requires under { IsUnder board.now store.now.words run.old.terms run.old.words run.old.memory run.old.board }
     requires idle { IsIdle run.old.board 0 }
 {
     let outside = outside_of(state, asked.given);
     let first = run.words.count();
-    let mut given = assignment(alloc, board, state, &run.words)?;
-    let bits = decided(alloc, board, store, outside, run, &mut given)?;
+    assign(alloc, board, state, &run.words, given)?;
+    let mut bits = Vec::new(alloc);
+    run.cycle(alloc, board, store, outside, given, &mut bits)?;
     match asked.printed {
-        Printed::State => state_lines(alloc, board, state, run, &mut given, &bits),
-        Printed::Words => words_line(alloc, &run.terms, &run.words, first),
+        Printed::State => push_state(alloc, report, board, state, run, given, &bits),
+        Printed::Words => push_words(report, &run.terms, &run.words, first),
     }
+}
+
+/// Appends the cycle of a symbolic board that is made from a state.
+fn push_run(
+    alloc: Global,
+    report: &mut Report,
+    board: &Board,
+    store: &Store,
+    state: &State,
+    asked: Asked,
+    run: &mut Run,
+) -> Result<(), SymbolicStop>
+    requires fits { Fits board.now state.now }
+    requires under { IsUnder board.now store.now.words run.old.terms run.old.words run.old.memory run.old.board }
+    requires idle { IsIdle run.old.board 0 }
+{
+    let mut given = Assignment::new(alloc);
+    let outcome = push_cycle(alloc, report, board, store, state, asked, run, &mut given);
+    drop(given);
+    outcome
 }
 
 /// What the outside has, with the word of the memory at the address register.
@@ -231,69 +253,113 @@ fn outside_of(state: &State, given: CycleIn) -> Outside {
     Outside { given, word }
 }
 
-/// Makes one cycle from a state.
-fn cycled(
+/// Makes one cycle from a state that fits the board.
+fn push_fitting(
     alloc: Global,
+    report: &mut Report,
     board: &Board,
     store: &Store,
     state: &State,
     asked: Asked,
-) -> Result<String, Fault> {
+) -> Result<(), SymbolicStop>
+    requires { Fits board.now state.now }
+{
+    let mut run = Run::new(alloc, board, state)?;
+    let outcome = push_run(alloc, report, board, store, state, asked, &mut run);
+    drop(run);
+    outcome
+}
+
+/// Makes one cycle from a state.
+fn push_cycled(
+    alloc: Global,
+    report: &mut Report,
+    board: &Board,
+    store: &Store,
+    state: &State,
+    asked: Asked,
+) -> Result<(), Fault> {
     if !state.fits(board) || u64::from(asked.given.input) >= 1 << board.width().bits() {
         return Err(wrong("the state or the input doesn't fit the board"));
     }
-    let mut run = Run::new(alloc, board, state)?;
-    let lines = from_run(alloc, board, store, state, asked, &mut run)?;
-    Ok(lines)
+    push_fitting(alloc, report, board, store, state, asked)?;
+    Ok(())
 }
 
 /// The same from the state of the file `state`.
-fn from_state(
+fn push_from_state(
     alloc: Global,
+    report: &mut Report,
     board: &Board,
     store: &Store,
     files: &[File],
     asked: Asked,
-) -> Result<String, Fault> {
+) -> Result<(), Fault> {
     let state = state_of(alloc, board, files)?;
-    cycled(alloc, board, store, &state, asked)
+    let outcome = push_cycled(alloc, report, board, store, &state, asked);
+    drop(state);
+    outcome
 }
 
 /// The same of this board, with the microwords of the file `store`.
-fn on_board(alloc: Global, board: &Board, files: &[File], asked: Asked) -> Result<String, Fault> {
+fn push_on_board(
+    alloc: Global,
+    report: &mut Report,
+    board: &Board,
+    files: &[File],
+    asked: Asked,
+) -> Result<(), Fault> {
     let store = store_of(alloc, files)?;
-    from_state(alloc, board, &store, files, asked)
+    let outcome = push_from_state(alloc, report, board, &store, files, asked);
+    drop(store);
+    outcome
 }
 
 /// The same of the board of the file `board`.
-fn lines_of(alloc: Global, files: &[File], asked: Asked) -> Result<Vec<u8>, Fault> {
+fn push_lines(
+    alloc: Global,
+    report: &mut Report,
+    files: &[File],
+    asked: Asked,
+) -> Result<(), Fault> {
     let board = board_of(alloc, files, "board")?;
-    let lines = on_board(alloc, &board, files, asked)?;
-    Ok(Vec::from_slice(alloc, lines.as_bytes())?)
+    let outcome = push_on_board(alloc, report, &board, files, asked);
+    drop(board);
+    outcome
 }
 
-/// The state after the cycle of the words `noise=`, `line=` and `input=`, and its event and its decided bits.
+/// Appends the state after the cycle of the words `noise=`, `line=` and `input=`, and its event and its decided bits.
 ///
 /// # Errors
 ///
 /// Words or files that aren't what the call reads, a state or an input that doesn't fit the board, and want of memory.
-pub fn run(alloc: Global, given: &[String], files: &[File]) -> Result<Vec<u8>, Fault> {
+pub fn run(
+    alloc: Global,
+    report: &mut Report,
+    given: &[String],
+    files: &[File],
+) -> Result<(), Fault> {
     let asked = Asked {
         given: given_of(given)?,
         printed: Printed::State,
     };
-    lines_of(alloc, files, asked)
+    push_lines(alloc, report, files, asked)
 }
 
-/// The words that this cycle adds.
+/// Appends the words that this cycle adds.
 ///
 /// # Errors
 ///
 /// As `run`.
-pub fn words(alloc: Global, given: &[String], files: &[File]) -> Result<Vec<u8>, Fault> {
+pub fn words(
+    alloc: Global,
+    report: &mut Report,
+    given: &[String],
+    files: &[File],
+) -> Result<(), Fault> {
     let asked = Asked {
         given: given_of(given)?,
         printed: Printed::Words,
     };
-    lines_of(alloc, files, asked)
+    push_lines(alloc, report, files, asked)
 }

@@ -153,26 +153,26 @@ fn set_outside(
     set(alloc, given, words, WordKind::Base(0), outside.word)
 }
 
-/// The assignment of a state: the variable of each element has the element's value.
+/// Gives the variable of each element the element's value.
 ///
 /// # Errors
 ///
 /// Want of memory.
-pub fn assignment(
+pub fn assign(
     alloc: Global,
     board: &Board,
     state: &State,
     words: &Words,
-) -> Result<Assignment, SymbolicStop>
+    given: &mut Assignment,
+) -> Result<(), SymbolicStop>
     requires { Fits board.now state.now }
 {
-    let mut given = Assignment::new(alloc);
     for number in 0..board.element_count() {
         let kind = WordKind::Element(numbered(number)?);
         let value = state.element(board, number);
-        set(alloc, &mut given, words, kind, value)?;
+        set(alloc, given, words, kind, value)?;
     }
-    Ok(given)
+    Ok(())
 }
 
 /// A decided bit: what it says, and its value.

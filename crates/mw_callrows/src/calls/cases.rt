@@ -6,7 +6,7 @@
 // longest. What is over its budget ends the list with a line: the limit of paths, or the bits before an operation, its
 // word and its bit. Bits are printed as those of a case, or as `-` where there are none; of a cycle that isn't whole,
 // `b` and the bits so far stand in place of the next address.
-ghost use Rattle.std.specs.Prelude.{◌≡◌, ◌<◌, length, true, IfOk};
+ghost use Rattle.std.specs.Prelude.{◌≡◌, ◌<◌, length, true, false, IfOk};
 ghost use Rattle.mw_rel.specs.Views.{job_of};
 ghost use Rattle.mw_fork.specs.Forks.{IsForkOf};
 
@@ -14,37 +14,37 @@ use super::pairs::read_job;
 use mw_fork::{Budget, Case, Decided, Fork, ForkFault, Over};
 use mw_rel::Job;
 use mw_rowfile::named::{hexadecimal_of, word};
-use mw_rowfile::{Fault, File, wrong};
+use mw_rowfile::{Fault, File, Report, wrong};
 use mw_term::{DecidedKind, ShortcutBook};
 use std::alloc::Global;
 
 /// More cases than this are not asked for.
 pub(super) const MOST_CASES: u32 = 65_536;
 
-/// What is decided of a cycle so far: the digits of pass and counter zero, and the bits of the next address, also as
-/// digits.
-#[derive(Drop)]
+/// What is decided of a cycle so far: the digits of pass and counter zero, and the bits of the next address.
+#[derive(Clone, Copy)]
 struct Piece {
     pass: u8,
     zero: u8,
     address: u16,
-    digits: Vec<u8>,
+    /// Whether a bit of the next address is decided.
+    is_at_address: bool,
 }
 
 impl Piece {
     /// Nothing is decided.
-    fn new(alloc: Global) -> Piece {
+    fn new() -> Piece {
         Piece {
             pass: b'-',
             zero: b'-',
             address: 0,
-            digits: Vec::new(alloc),
+            is_at_address: false,
         }
     }
 
     /// Whether something is decided.
-    fn is_begun(&self) -> bool {
-        self.pass != b'-' || self.zero != b'-' || !self.digits.is_empty()
+    fn is_begun(self) -> bool {
+        self.pass != b'-' || self.zero != b'-' || self.is_at_address
     }
 }
 
@@ -54,188 +54,213 @@ fn digit(value: bool) -> u8 {
 }
 
 /// Appends the digits of pass and counter zero, with a blank before them.
-fn push_tests(text: &mut Vec<u8>, piece: &Piece) -> Result<(), Fault> {
-    text.push(b' ')?;
-    text.push(piece.pass)?;
-    text.push(piece.zero)?;
-    Ok(())
-}
-
-/// Appends a cycle.
-fn push_piece(alloc: Global, text: &mut Vec<u8>, piece: &Piece) -> Result<(), Fault> {
-    push_tests(text, piece)?;
-    let address = format!(in alloc; "{:03x}", piece.address)?;
-    text.extend_from_slice(address.as_bytes())?;
-    Ok(())
-}
-
-/// Appends what is decided of a cycle that isn't whole, where something is.
-fn push_begun(text: &mut Vec<u8>, piece: &Piece) -> Result<(), Fault> {
-    if piece.is_begun() {
-        push_tests(text, piece)?;
-        text.push(b'b')?;
-        text.extend_from_slice(&piece.digits)?;
-    }
-    Ok(())
+fn push_tests(report: &mut Report, piece: Piece) {
+    report.push(b" ");
+    report.push(&[piece.pass, piece.zero]);
 }
 
 /// Takes a bit of a cycle, and appends the cycle behind its last one.
-fn take_bit(
-    alloc: Global,
-    text: &mut Vec<u8>,
-    piece: &mut Piece,
-    kind: DecidedKind,
-    value: bool,
-) -> Result<(), Fault> {
+fn take_bit(report: &mut Report, piece: &mut Piece, kind: DecidedKind, value: bool) {
     match kind {
         DecidedKind::Pass => piece.pass = digit(value),
         DecidedKind::CounterZero => piece.zero = digit(value),
         DecidedKind::Next(place) => {
             piece.address = piece.address << 1 | u16::from(value);
-            piece.digits.push(digit(value))?;
+            piece.is_at_address = true;
             if place == 0 {
-                push_piece(alloc, text, piece)?;
-                *piece = Piece::new(alloc);
+                push_tests(report, *piece);
+                report.push_address(piece.address);
+                *piece = Piece::new();
             }
         }
         DecidedKind::Branch => {}
     }
-    Ok(())
+}
+
+/// Appends what is decided of a cycle that isn't whole, whose bits of the next address are among these.
+fn push_begun(report: &mut Report, piece: Piece, bits: &[Decided]) {
+    push_tests(report, piece);
+    report.push(b"b");
+    for bit in bits {
+        if let DecidedKind::Next(_) = bit.kind {
+            report.push_bit(bit.value);
+        }
+    }
 }
 
 /// Appends the cycles of some bits. The last one may not be whole.
-fn push_cycles(alloc: Global, text: &mut Vec<u8>, bits: &[Decided]) -> Result<(), Fault> {
-    let mut piece = Piece::new(alloc);
-    for bit in bits {
-        take_bit(alloc, text, &mut piece, bit.kind, bit.value)?;
+fn push_cycles(report: &mut Report, bits: &[Decided]) {
+    let mut piece = Piece::new();
+    let mut rest = bits;
+    for (place, bit) in bits.iter().enumerate() {
+        take_bit(report, &mut piece, bit.kind, bit.value);
+        if bit.kind == DecidedKind::Next(0) {
+            rest = &bits[place + 1..];
+        }
     }
-    push_begun(text, &piece)
+    if piece.is_begun() {
+        push_begun(report, piece, rest);
+    }
 }
 
 /// Appends the branch bits, where there are any.
-fn push_branches(text: &mut Vec<u8>, bits: &[Decided]) -> Result<(), Fault> {
+fn push_branches(report: &mut Report, bits: &[Decided]) {
     let mut before: &[u8] = b" / ";
     for bit in bits {
         if bit.kind == DecidedKind::Branch {
-            text.extend_from_slice(before)?;
-            text.push(digit(bit.value))?;
+            report.push(before);
+            report.push_bit(bit.value);
             before = b"";
         }
     }
-    Ok(())
 }
 
 /// Appends decided bits, with a blank before them.
-fn push_prefix(alloc: Global, text: &mut Vec<u8>, bits: &[Decided]) -> Result<(), Fault> {
+fn push_prefix(report: &mut Report, bits: &[Decided]) {
     if bits.is_empty() {
-        text.extend_from_slice(b" -")?;
+        report.push(b" -");
     }
-    push_cycles(alloc, text, bits)?;
-    push_branches(text, bits)
+    push_cycles(report, bits);
+    push_branches(report, bits);
 }
 
 /// Appends the line of a case.
-pub(super) fn push_case(alloc: Global, text: &mut Vec<u8>, case: &Case) -> Result<(), Fault> {
-    text.extend_from_slice(b"case")?;
-    push_prefix(alloc, text, case.prefix.as_slice())?;
-    let (cycles, late) = (case.cycles, u8::from(case.late));
-    let end = format!(in alloc; " cycles {cycles} late {late}\n")?;
-    text.extend_from_slice(end.as_bytes())?;
-    Ok(())
+pub(super) fn push_case(report: &mut Report, case: &Case) {
+    report.push(b"case");
+    push_prefix(report, case.prefix.as_slice());
+    report.push(b" cycles ");
+    report.push_decimal(u64::from(case.cycles));
+    report.push(b" late ");
+    report.push_bit(case.late);
+    report.push(b"\n");
 }
 
 /// Appends what is over its budget.
-pub(super) fn push_over(alloc: Global, text: &mut Vec<u8>, over: &Over) -> Result<(), Fault> {
-    let end = match over {
+fn push_over(report: &mut Report, over: &Over) {
+    match over {
         Over::Nodes {
             prefix,
             word,
             bit,
             ..
         } => {
-            text.extend_from_slice(b"over nodes prefix")?;
-            push_prefix(alloc, text, prefix.as_slice())?;
-            format!(in alloc; " word {word} bit {bit}\n")?
+            report.push(b"over nodes prefix");
+            push_prefix(report, prefix.as_slice());
+            report.push(b" word ");
+            report.push_decimal(*word);
+            report.push(b" bit ");
+            report.push_decimal(u64::from(*bit));
         }
-        Over::Paths { limit, .. } => format!(in alloc; "over paths {limit}\n")?,
-    };
-    text.extend_from_slice(end.as_bytes())?;
-    Ok(())
+        Over::Paths { limit, .. } => {
+            report.push(b"over paths ");
+            report.push_decimal(u64::from(*limit));
+        }
+    }
+    report.push(b"\n");
+}
+
+/// Appends what is over its budget. Nothing comes behind it, so the answer is that no more does.
+pub(super) fn push_fault(report: &mut Report, fault: ForkFault) -> Result<bool, Fault>
+    ensures { IfOk result (λ more. more ≡ false) }
+{
+    match fault {
+        ForkFault::Over(over) => {
+            push_over(report, &over);
+            drop(over);
+            Ok(false)
+        }
+        ForkFault::NoMemory => Err(Fault::NoMemory),
+    }
 }
 
 /// The cases of a boundary so far.
 #[derive(Drop)]
 struct Cases {
     /// A line for each.
-    lines: Vec<u8>,
+    lines: Report,
     count: u32,
     longest: u32,
     /// The line of what is over its budget, where something is.
-    over: Vec<u8>,
+    over: Report,
 }
 
 impl Cases {
     /// No case.
     fn new(alloc: Global) -> Cases {
         Cases {
-            lines: Vec::new(alloc),
+            lines: Report::new(alloc),
             count: 0,
             longest: 0,
-            over: Vec::new(alloc),
+            over: Report::new(alloc),
         }
     }
 
     /// Takes one more.
-    fn take(&mut self, alloc: Global, case: &Case) -> Result<(), Fault> {
-        push_case(alloc, &mut self.lines, case)?;
+    fn take(&mut self, case: &Case) {
+        push_case(&mut self.lines, case);
         self.count = self.count.saturating_add(1);
         self.longest = self.longest.max(case.cycles);
-        Ok(())
     }
 
     /// Takes the next case of a fork, and answers whether there was one.
-    fn take_next(&mut self, alloc: Global, job: &Job, fork: &mut Fork<'_>) -> Result<bool, Fault>
+    fn take_next(
+        &mut self,
+        alloc: Global,
+        job: &Job,
+        fork: &mut Fork<'_>,
+        book: &ShortcutBook,
+    ) -> Result<bool, Fault>
         requires { IsForkOf (job_of job.now) fork.old }
         ensures { IfOk result (λ more. more ≡ true → IsForkOf (job_of job.now) fork.new) }
     {
-        match fork.next_case(alloc, job, &ShortcutBook::new(alloc)) {
+        match fork.next_case(alloc, job, book) {
             Ok(Some(case)) => {
-                self.take(alloc, &case)?;
+                self.take(&case);
+                drop(case);
                 Ok(true)
             }
             Ok(None) => Ok(false),
-            Err(ForkFault::Over(over)) => {
-                push_over(alloc, &mut self.over, &over)?;
-                Ok(false)
+            Err(fault) => push_fault(&mut self.over, fault),
+        }
+    }
+
+    /// Takes the cases of a fork.
+    fn take_all(
+        &mut self,
+        alloc: Global,
+        job: &Job,
+        fork: &mut Fork<'_>,
+        book: &ShortcutBook,
+    ) -> Result<(), Fault>
+        requires { IsForkOf (job_of job.now) fork.old }
+    {
+        for _ in 0..=MOST_CASES {
+            if !self.take_next(alloc, job, fork, book)? {
+                return Ok(());
             }
-            Err(ForkFault::NoMemory) => Err(Fault::NoMemory),
         }
+        Err(wrong("more cases than are asked for"))
     }
-}
 
-/// The cases of a fork.
-fn cases_of(alloc: Global, job: &Job, fork: &mut Fork<'_>) -> Result<Cases, Fault>
-    requires { IsForkOf (job_of job.now) fork.old }
-{
-    let mut cases = Cases::new(alloc);
-    for _ in 0..=MOST_CASES {
-        if !cases.take_next(alloc, job, fork)? {
-            return Ok(cases);
-        }
+    /// Takes the cases of the boundary of this number.
+    fn take_boundary(
+        &mut self,
+        alloc: Global,
+        job: &Job,
+        boundary: usize,
+        budget: Budget,
+    ) -> Result<(), Fault>
+        requires { boundary < length (job_of job.now).relation.boundaries }
+    {
+        let Ok(mut fork) = Fork::start(alloc, job, boundary, budget) else {
+            unreachable!()
+        };
+        let book = ShortcutBook::new(alloc);
+        let outcome = self.take_all(alloc, job, &mut fork, &book);
+        drop(book);
+        drop(fork);
+        outcome
     }
-    Err(wrong("more cases than are asked for"))
-}
-
-/// The cases of the boundary of this number.
-fn cases_at(alloc: Global, job: &Job, boundary: usize, budget: Budget) -> Result<Cases, Fault>
-    requires { boundary < length (job_of job.now).relation.boundaries }
-{
-    let Ok(mut fork) = Fork::start(alloc, job, boundary, budget) else {
-        unreachable!()
-    };
-    let cases = cases_of(alloc, job, &mut fork);
-    drop(fork);
-    cases
 }
 
 /// What is printed of the cases of a boundary.
@@ -247,10 +272,29 @@ enum Printed {
     Count,
 }
 
+/// Appends the cases of the boundary at an address.
+fn push_cases(report: &mut Report, address: u16, cases: &Cases, printed: Printed) {
+    report.push_named(b"boundary 0x", u64::from(address));
+    match printed {
+        Printed::Lines => {
+            report.push(b"\n");
+            report.push_report(&cases.lines);
+        }
+        Printed::Count => {
+            report.push(b" cases ");
+            report.push_decimal(u64::from(cases.count));
+            report.push(b" cycles ");
+            report.push_decimal(u64::from(cases.longest));
+            report.push(b"\n");
+        }
+    }
+    report.push_report(&cases.over);
+}
+
 /// Appends the cases of the boundary of this number.
 fn push_boundary(
     alloc: Global,
-    report: &mut Vec<u8>,
+    report: &mut Report,
     job: &Job,
     boundary: usize,
     budget: Budget,
@@ -258,21 +302,11 @@ fn push_boundary(
 ) -> Result<(), Fault>
     requires { boundary < length (job_of job.now).relation.boundaries }
 {
-    let cases = cases_at(alloc, job, boundary, budget)?;
-    let address = job.boundary(boundary).address;
-    let (count, longest) = (cases.count, cases.longest);
-    let head = match printed {
-        Printed::Lines => format!(in alloc; "boundary 0x{address:x}\n")?,
-        Printed::Count => format!(in alloc;
-            "boundary 0x{address:x} cases {count} cycles {longest}\n"
-        )?,
-    };
-    report.extend_from_slice(head.as_bytes())?;
-    if let Printed::Lines = printed {
-        report.extend_from_slice(&cases.lines)?;
-    }
-    report.extend_from_slice(&cases.over)?;
-    Ok(())
+    let mut cases = Cases::new(alloc);
+    let outcome = cases.take_boundary(alloc, job, boundary, budget);
+    push_cases(report, job.boundary(boundary).address, &cases, printed);
+    drop(cases);
+    outcome
 }
 
 /// The budget that the words of a call name.
@@ -283,48 +317,59 @@ pub(super) fn budget_of(given: &[String]) -> Result<Budget, Fault> {
     })
 }
 
-/// The cases of all boundaries of a job within a budget.
-fn printed_within(
+/// Appends the cases of all boundaries of a job within a budget.
+fn push_boundaries(
     alloc: Global,
+    report: &mut Report,
     job: &Job,
     budget: Budget,
     printed: Printed,
-) -> Result<Vec<u8>, Fault> {
-    let mut report = Vec::new(alloc);
+) -> Result<(), Fault> {
     for number in 0..job.relation.boundaries().len() {
-        push_boundary(alloc, &mut report, job, number, budget, printed)?;
+        push_boundary(alloc, report, job, number, budget, printed)?;
     }
-    Ok(report)
+    Ok(())
 }
 
-/// The cases of all boundaries.
-fn printed_of(
+/// Appends the cases of all boundaries.
+fn push_job(
     alloc: Global,
+    report: &mut Report,
     given: &[String],
     files: &[File],
     printed: Printed,
-) -> Result<Vec<u8>, Fault> {
+) -> Result<(), Fault> {
     let budget = budget_of(given)?;
     let job = read_job(alloc, files, "text")?;
-    let report = printed_within(alloc, &job, budget, printed);
+    let outcome = push_boundaries(alloc, report, &job, budget, printed);
     drop(job);
-    report
+    outcome
 }
 
-/// The cases of each boundary of a job.
+/// Appends the cases of each boundary of a job.
 ///
 /// # Errors
 ///
 /// Words or files that aren't what the call reads, and want of memory.
-pub fn list(alloc: Global, given: &[String], files: &[File]) -> Result<Vec<u8>, Fault> {
-    printed_of(alloc, given, files, Printed::Lines)
+pub fn list(
+    alloc: Global,
+    report: &mut Report,
+    given: &[String],
+    files: &[File],
+) -> Result<(), Fault> {
+    push_job(alloc, report, given, files, Printed::Lines)
 }
 
-/// How many cases each boundary of a job has.
+/// Appends how many cases each boundary of a job has.
 ///
 /// # Errors
 ///
 /// As `list`.
-pub fn count(alloc: Global, given: &[String], files: &[File]) -> Result<Vec<u8>, Fault> {
-    printed_of(alloc, given, files, Printed::Count)
+pub fn count(
+    alloc: Global,
+    report: &mut Report,
+    given: &[String],
+    files: &[File],
+) -> Result<(), Fault> {
+    push_job(alloc, report, given, files, Printed::Count)
 }

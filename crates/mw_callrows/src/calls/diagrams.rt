@@ -9,7 +9,8 @@ ghost use Rattle.mw_dd.specs.Nodes.{IsDd};
 
 use mw_base::NoMemory;
 use mw_dd::{Dd, DdFault, Diagrams};
-use mw_rowfile::{Fault, wrong};
+use mw_rowfile::{Fault, File, Report, text_in, wrong};
+use mw_term::Assignment;
 use std::alloc::Global;
 
 /// Why words gave no function.
@@ -96,14 +97,14 @@ fn function(diagrams: &mut Diagrams, alloc: Global, words: &mut Vec<&str>) -> Re
 /// Appends whether two functions are one node.
 fn push_same(
     alloc: Global,
-    report: &mut Vec<u8>,
+    report: &mut Report,
     diagrams: &mut Diagrams,
     words: &mut Vec<&str>,
-) -> Result<(), Fault> {
+) -> Result<(), NotMade> {
     let f = function(diagrams, alloc, words)?;
     let g = function(diagrams, alloc, words)?;
     let same: &[u8] = if f == g { b"same" } else { b"other" };
-    report.extend_from_slice(same)?;
+    report.push(same);
     Ok(())
 }
 
@@ -131,46 +132,87 @@ fn is_made(
 /// Appends for each budget up to the greatest whether an operation is made.
 fn push_budgets(
     alloc: Global,
-    report: &mut Vec<u8>,
+    report: &mut Report,
     diagrams: &mut Diagrams,
     words: &mut Vec<&str>,
-) -> Result<(), Fault> {
-    let Some(Ok(greatest)) = words.pop().map(|word| word.parse::<u8>()) else {
-        return Err(wrong("no greatest budget"));
-    };
+    greatest: u8,
+) -> Result<(), NotMade> {
     let f = function(diagrams, alloc, words)?;
     let g = function(diagrams, alloc, words)?;
     let h = function(diagrams, alloc, words)?;
     for budget in 0..=u32::from(greatest) {
         let made = is_made(diagrams, alloc, f, g, h, budget)?;
-        report.push(if made { b'1' } else { b'0' })?;
+        report.push_bit(made);
     }
     Ok(())
+}
+
+/// The greatest budget, which is the last word. It is taken away.
+fn greatest_budget(words: &mut Vec<&str>) -> Result<u8, Fault> {
+    match words.pop().map(|word| word.parse::<u8>()) {
+        Some(Ok(greatest)) => Ok(greatest),
+        _ => Err(wrong("no greatest budget")),
+    }
+}
+
+/// Appends the same up to the budget that is the last word.
+fn push_up_to(
+    alloc: Global,
+    report: &mut Report,
+    diagrams: &mut Diagrams,
+    words: &mut Vec<&str>,
+) -> Result<(), Fault> {
+    let greatest = greatest_budget(words)?;
+    push_budgets(alloc, report, diagrams, words, greatest)?;
+    Ok(())
+}
+
+/// Appends the numbers of four words under an assignment.
+fn push_numbers(report: &mut Report, given: &Assignment) {
+    report.push_decimal(u64::from(given.number(0)));
+    for word in 1..4 {
+        report.push(b" ");
+        report.push_decimal(u64::from(given.number(word)));
+    }
 }
 
 /// Appends the numbers of four words under the first assignment where a function holds.
 fn push_first(
     alloc: Global,
-    report: &mut Vec<u8>,
+    report: &mut Report,
+    diagrams: &mut Diagrams,
+    words: &mut Vec<&str>,
+) -> Result<(), NotMade> {
+    let f = function(diagrams, alloc, words)?;
+    match diagrams.some_assignment(alloc, f)? {
+        Some(first) => {
+            push_numbers(report, &first);
+            drop(first);
+        }
+        None => report.push(b"never"),
+    }
+    Ok(())
+}
+
+/// Appends what the words of a line give, from the last on. They are taken away.
+fn push_words(
+    alloc: Global,
+    report: &mut Report,
     diagrams: &mut Diagrams,
     words: &mut Vec<&str>,
 ) -> Result<(), Fault> {
-    let f = function(diagrams, alloc, words)?;
-    let Some(first) = diagrams.some_assignment(alloc, f)? else {
-        report.extend_from_slice(b"never")?;
-        return Ok(());
-    };
-    let (a, b) = (first.number(0), first.number(1));
-    let (c, d) = (first.number(2), first.number(3));
-    let numbers = format!(in alloc; "{a} {b} {c} {d}")?;
-    report.extend_from_slice(numbers.as_bytes())?;
-    Ok(())
+    match words.pop() {
+        Some("same") => Ok(push_same(alloc, report, diagrams, words)?),
+        Some("budgets") => push_up_to(alloc, report, diagrams, words),
+        Some("first") => Ok(push_first(alloc, report, diagrams, words)?),
+        _ => Err(wrong("no such line of functions")),
+    }
 }
 
 /// Appends what a line gives.
 fn push_line(
     alloc: Global,
-    report: &mut Vec<u8>,
+    report: &mut Report,
     diagrams: &mut Diagrams,
     line: &str,
 ) -> Result<(), Fault> {
@@ -179,29 +221,36 @@ fn push_line(
         words.push(word)?;
     }
     words.reverse();
-    match words.pop() {
-        Some("same") => push_same(alloc, report, diagrams, &mut words)?,
-        Some("budgets") => push_budgets(alloc, report, diagrams, &mut words)?,
-        Some("first") => push_first(alloc, report, diagrams, &mut words)?,
-        _ => return Err(wrong("no such line of functions")),
-    }
+    push_words(alloc, report, diagrams, &mut words)?;
     if !words.is_empty() {
         return Err(wrong("a word behind the functions"));
     }
-    report.push(b'\n')?;
+    report.push(b"\n");
     Ok(())
 }
 
-/// What the lines of a text give.
+/// Appends what the lines of a text give.
+fn push_lines(
+    alloc: Global,
+    report: &mut Report,
+    diagrams: &mut Diagrams,
+    text: &str,
+) -> Result<(), Fault> {
+    for line in text.lines() {
+        push_line(alloc, report, diagrams, line)?;
+    }
+    Ok(())
+}
+
+/// Appends what the lines of the file `text` give.
 ///
 /// # Errors
 ///
 /// A line that isn't right, and want of memory.
-pub fn read(alloc: Global, text: &str) -> Result<Vec<u8>, Fault> {
+pub fn read(alloc: Global, report: &mut Report, files: &[File]) -> Result<(), Fault> {
+    let text = text_in(files, "text")?;
     let mut diagrams = Diagrams::new(alloc)?;
-    let mut report = Vec::new(alloc);
-    for line in text.lines() {
-        push_line(alloc, &mut report, &mut diagrams, line)?;
-    }
-    Ok(report)
+    let outcome = push_lines(alloc, report, &mut diagrams, text);
+    drop(diagrams);
+    outcome
 }

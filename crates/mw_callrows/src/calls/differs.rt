@@ -3,7 +3,7 @@
 // replay of this text shows; or `same` where none of its starts differs. What is over its budget ends the list of its
 // boundary with a line. `call counter`: the text of the file `s`, read as a counter of the same job and printed again,
 // or its first fault. A boundary stands there by its address.
-ghost use Rattle.std.specs.Prelude.{◌≡◌, ◌<◌, ◌^◌, List, length, true, false, IfOk};
+ghost use Rattle.std.specs.Prelude.{◌≡◌, ◌<◌, ◌^◌, List, length, true, IfOk};
 ghost use Rattle.mw_term.specs.declared.decided.Decided.{Decided};
 ghost use Rattle.mw_rel.specs.Views.{job_of};
 ghost use Rattle.mw_fork.specs.Begins.{IsDiffering};
@@ -11,15 +11,14 @@ ghost use Rattle.mw_explore.specs.Cases.{At};
 ghost use Rattle.mw_fork.specs.Forks.{IsForkOf};
 ghost use Rattle.mw_replay.specs.Counter.{IsCounter};
 
-use super::cases::{MOST_CASES, budget_of, push_case, push_over};
+use super::cases::{MOST_CASES, budget_of, push_case, push_fault};
 use super::pairs::{read_job, text_of};
-use super::relations::{names_of, refused};
+use super::relations::take_names;
 use super::trees::push_name;
-use mw_base::append_hex;
-use mw_fork::{Budget, Fork, ForkFault};
+use mw_fork::{Budget, Fork};
 use mw_rel::{Begin, Job};
 use mw_replay::{Counter, Difference, print_counter, read_counter, replay};
-use mw_rowfile::{Fault, File, wrong};
+use mw_rowfile::{Fault, File, Report, wrong};
 use mw_term::ShortcutBook;
 use std::alloc::Global;
 
@@ -37,53 +36,49 @@ fn counter_of(job: &Job, boundary: usize, begin: Begin) -> Result<Counter, Fault
 }
 
 /// Appends the name of an element.
-fn push_element(alloc: Global, report: &mut Vec<u8>, job: &Job, element: u32) -> Result<(), Fault> {
-    let names = names_of(alloc, &job.board, &job.machine)?;
-    let outcome = push_name(report, &names, element);
+fn push_element(alloc: Global, report: &mut Report, job: &Job, element: u32) -> Result<(), Fault> {
+    let mut names = Vec::new(alloc);
+    let taken = take_names(alloc, &mut names, &job.board, &job.machine);
+    push_name(report, &names, element);
     drop(names);
-    outcome
+    taken
 }
 
 /// Appends a difference.
 fn push_difference(
     alloc: Global,
-    report: &mut Vec<u8>,
+    report: &mut Report,
     job: &Job,
     difference: Difference,
 ) -> Result<(), Fault> {
     match difference {
-        Difference::Late => report.extend_from_slice(b"late")?,
+        Difference::Late => report.push(b"late"),
         Difference::Event(number) => {
-            let text = format!(in alloc; "event {number}")?;
-            report.extend_from_slice(text.as_bytes())?;
+            report.push(b"event ");
+            report.push_decimal(u64::from(number));
         }
-        Difference::StackPointer => report.extend_from_slice(b"stack pointer")?,
+        Difference::StackPointer => report.push(b"stack pointer"),
         Difference::Element(element) => {
-            report.extend_from_slice(b"element ")?;
+            report.push(b"element ");
             push_element(alloc, report, job, element)?;
         }
         Difference::Memory(address) => {
-            report.extend_from_slice(b"memory ")?;
-            append_hex(alloc, report, u128::from(address))?;
+            report.push(b"memory ");
+            report.push_hex(u64::from(address));
         }
     }
-    report.push(b'\n')?;
+    report.push(b"\n");
     Ok(())
 }
 
 /// Appends what a replay of a counter shows.
-fn push_shown(
-    alloc: Global,
-    report: &mut Vec<u8>,
-    job: &Job,
-    counter: &Counter,
-) -> Result<(), Fault>
+fn push_shown(alloc: Global, report: &mut Report, job: &Job, counter: &Counter) -> Result<(), Fault>
     requires { IsCounter (job_of job.now) counter.now }
 {
     match replay(alloc, job, counter)? {
         Some(difference) => push_difference(alloc, report, job, difference),
         None => {
-            report.extend_from_slice(b"no difference\n")?;
+            report.push(b"no difference\n");
             Ok(())
         }
     }
@@ -105,7 +100,7 @@ fn read_back(alloc: Global, job: &Job, text: &[u8]) -> Result<Counter, Fault>
 /// Appends what is shown by a replay of the counter of a text, which has to be the same when it is printed again.
 fn push_again(
     alloc: Global,
-    report: &mut Vec<u8>,
+    report: &mut Report,
     job: &Job,
     counter: &Counter,
     text: &[u8],
@@ -114,7 +109,7 @@ fn push_again(
 {
     let printed = print_counter(alloc, job, counter)?;
     if printed.as_slice() != text {
-        report.extend_from_slice(b"another text\n")?;
+        report.push(b"another text\n");
     }
     push_shown(alloc, report, job, counter)
 }
@@ -122,38 +117,28 @@ fn push_again(
 /// Appends a counter, and what is shown by a replay of its text, which has to be the same when it is printed again.
 fn push_counter(
     alloc: Global,
-    report: &mut Vec<u8>,
+    report: &mut Report,
     job: &Job,
     counter: &Counter,
 ) -> Result<(), Fault>
     requires { IsCounter (job_of job.now) counter.now }
 {
     let text = print_counter(alloc, job, counter)?;
-    report.extend_from_slice(&text)?;
+    report.push(&text);
     let again = read_back(alloc, job, &text)?;
     let outcome = push_again(alloc, report, job, &again, &text);
     drop(again);
     outcome
 }
 
-/// Appends what is over its budget. Nothing comes behind it.
-fn push_fault(alloc: Global, report: &mut Vec<u8>, fault: &ForkFault) -> Result<bool, Fault>
-    ensures { IfOk result (λ more. more ≡ false) }
-{
-    match fault {
-        ForkFault::Over(over) => push_over(alloc, report, over)?,
-        ForkFault::NoMemory => return Err(Fault::NoMemory),
-    }
-    Ok(false)
-}
-
 /// Appends a start of the case given last that differs, and answers whether more may come.
 fn push_differing(
     alloc: Global,
-    report: &mut Vec<u8>,
+    report: &mut Report,
     job: &Job,
     boundary: usize,
     fork: &mut Fork<'_>,
+    book: &ShortcutBook,
 ) -> Result<bool, Fault>
     requires of { IsForkOf (job_of job.now) fork.old }
     requires there { boundary < length (job_of job.now).relation.boundaries }
@@ -161,7 +146,7 @@ fn push_differing(
     requires given { (last : List Decided) × (fork.old.at ≡ At last) }
     ensures same { IfOk result (λ more. more ≡ true → fork.new ≡ fork.old) }
 {
-    match fork.differs(alloc, job, &ShortcutBook::new(alloc)) {
+    match fork.differs(alloc, job, book) {
         Ok(Some(begin)) => {
             let counter = counter_of(job, boundary, begin)?;
             let outcome = push_counter(alloc, report, job, &counter);
@@ -170,10 +155,10 @@ fn push_differing(
             Ok(true)
         }
         Ok(None) => {
-            report.extend_from_slice(b"same\n")?;
+            report.push(b"same\n");
             Ok(true)
         }
-        Err(fault) => push_fault(alloc, report, &fault),
+        Err(fault) => push_fault(report, fault),
     }
 }
 
@@ -181,10 +166,11 @@ fn push_differing(
 /// second answer that isn't the first stands behind it.
 fn push_twice(
     alloc: Global,
-    report: &mut Vec<u8>,
+    report: &mut Report,
     job: &Job,
     boundary: usize,
     fork: &mut Fork<'_>,
+    book: &ShortcutBook,
 ) -> Result<bool, Fault>
     requires of { IsForkOf (job_of job.now) fork.old }
     requires there { boundary < length (job_of job.now).relation.boundaries }
@@ -192,16 +178,16 @@ fn push_twice(
     requires given { (last : List Decided) × (fork.old.at ≡ At last) }
     ensures same { IfOk result (λ more. more ≡ true → fork.new ≡ fork.old) }
 {
-    let mut first = Vec::new(alloc);
-    let more = push_differing(alloc, &mut first, job, boundary, fork)?;
-    report.extend_from_slice(&first)?;
+    let mut first = Report::new(alloc);
+    let more = push_differing(alloc, &mut first, job, boundary, fork, book)?;
+    report.push_report(&first);
     if !more {
         return Ok(false);
     }
-    let mut second = Vec::new(alloc);
-    let more = push_differing(alloc, &mut second, job, boundary, fork)?;
+    let mut second = Report::new(alloc);
+    let more = push_differing(alloc, &mut second, job, boundary, fork, book)?;
     if second.as_slice() != first.as_slice() {
-        report.extend_from_slice(&second)?;
+        report.push_report(&second);
     }
     Ok(more)
 }
@@ -209,10 +195,11 @@ fn push_twice(
 /// Appends the next case of a fork with a start that differs, and answers whether more may come.
 fn push_next(
     alloc: Global,
-    report: &mut Vec<u8>,
+    report: &mut Report,
     job: &Job,
     boundary: usize,
     fork: &mut Fork<'_>,
+    book: &ShortcutBook,
 ) -> Result<bool, Fault>
     requires of { IsForkOf (job_of job.now) fork.old }
     requires there { boundary < length (job_of job.now).relation.boundaries }
@@ -220,30 +207,32 @@ fn push_next(
     ensures of { IfOk result (λ more. more ≡ true → IsForkOf (job_of job.now) fork.new) }
     ensures boundary { IfOk result (λ more. more ≡ true → fork.new.boundary ≡ boundary) }
 {
-    match fork.next_case(alloc, job, &ShortcutBook::new(alloc)) {
+    match fork.next_case(alloc, job, book) {
         Ok(Some(case)) => {
-            push_case(alloc, report, &case)?;
-            push_twice(alloc, report, job, boundary, fork)
+            push_case(report, &case);
+            drop(case);
+            push_twice(alloc, report, job, boundary, fork, book)
         }
         Ok(None) => Ok(false),
-        Err(fault) => push_fault(alloc, report, &fault),
+        Err(fault) => push_fault(report, fault),
     }
 }
 
 /// Appends the cases of a fork, each with a start that differs.
 fn push_cases(
     alloc: Global,
-    report: &mut Vec<u8>,
+    report: &mut Report,
     job: &Job,
     boundary: usize,
     fork: &mut Fork<'_>,
+    book: &ShortcutBook,
 ) -> Result<(), Fault>
     requires of { IsForkOf (job_of job.now) fork.old }
     requires there { boundary < length (job_of job.now).relation.boundaries }
     requires boundary { fork.old.boundary ≡ boundary }
 {
     for _ in 0..=MOST_CASES {
-        if !push_next(alloc, report, job, boundary, fork)? {
+        if !push_next(alloc, report, job, boundary, fork, book)? {
             return Ok(());
         }
     }
@@ -253,7 +242,7 @@ fn push_cases(
 /// Appends the cases of the boundary of this number, each with a start that differs.
 fn push_boundary(
     alloc: Global,
-    report: &mut Vec<u8>,
+    report: &mut Report,
     job: &Job,
     boundary: usize,
     budget: Budget,
@@ -261,61 +250,78 @@ fn push_boundary(
     requires { boundary < length (job_of job.now).relation.boundaries }
 {
     let address = job.boundary(boundary).address;
-    let head = format!(in alloc; "boundary 0x{address:x}\n")?;
-    report.extend_from_slice(head.as_bytes())?;
+    report.push_named(b"boundary 0x", u64::from(address));
+    report.push(b"\n");
     let Ok(mut fork) = Fork::start(alloc, job, boundary, budget) else {
         unreachable!()
     };
-    let outcome = push_cases(alloc, report, job, boundary, &mut fork);
+    let book = ShortcutBook::new(alloc);
+    let outcome = push_cases(alloc, report, job, boundary, &mut fork, &book);
+    drop(book);
     drop(fork);
     outcome
 }
 
-/// The cases of each boundary, each with a start that differs.
-fn listed(alloc: Global, job: &Job, budget: Budget) -> Result<Vec<u8>, Fault> {
-    let mut report = Vec::new(alloc);
+/// Appends the cases of each boundary, each with a start that differs.
+fn push_boundaries(
+    alloc: Global,
+    report: &mut Report,
+    job: &Job,
+    budget: Budget,
+) -> Result<(), Fault> {
     for number in 0..job.relation.boundaries().len() {
-        push_boundary(alloc, &mut report, job, number, budget)?;
+        push_boundary(alloc, report, job, number, budget)?;
     }
-    Ok(report)
+    Ok(())
 }
 
-/// The cases of each boundary of a job, each with a start that differs.
+/// Appends the cases of each boundary of a job, each with a start that differs.
 ///
 /// # Errors
 ///
 /// Words or files that aren't what the call reads, and want of memory.
-pub fn list(alloc: Global, given: &[String], files: &[File]) -> Result<Vec<u8>, Fault> {
+pub fn list(
+    alloc: Global,
+    report: &mut Report,
+    given: &[String],
+    files: &[File],
+) -> Result<(), Fault> {
     let budget = budget_of(given)?;
     let job = read_job(alloc, files, "text")?;
-    let report = listed(alloc, &job, budget);
+    let outcome = push_boundaries(alloc, report, &job, budget);
     drop(job);
-    report
+    outcome
 }
 
-/// A text that is read as a counter of a job and printed again.
-fn printed_again(alloc: Global, job: &Job, text: &[u8]) -> Result<Vec<u8>, Fault>
+/// Appends a text that is read as a counter of a job and printed again, or its first fault.
+fn push_printed_again(
+    alloc: Global,
+    report: &mut Report,
+    job: &Job,
+    text: &[u8],
+) -> Result<(), Fault>
     requires { length text.now < 2 ^ 32 }
 {
     match read_counter(alloc, job, &[], text) {
         Ok(counter) => {
             let text = print_counter(alloc, job, &counter);
             drop(counter);
-            Ok(text?)
+            report.push(&text?);
         }
-        Err(refusal) => refused(alloc, refusal),
+        Err(refusal) => report.push_refusal(refusal),
     }
+    Ok(())
 }
 
-/// The counter of a text, printed again.
+/// Appends the counter of a text, printed again.
 ///
 /// # Errors
 ///
 /// Files that aren't what the call reads, and want of memory.
-pub fn read(alloc: Global, files: &[File]) -> Result<Vec<u8>, Fault> {
+pub fn read(alloc: Global, report: &mut Report, files: &[File]) -> Result<(), Fault> {
     let text = text_of(files, "s")?;
     let job = read_job(alloc, files, "text")?;
-    let report = printed_again(alloc, &job, text);
+    let outcome = push_printed_again(alloc, report, &job, text);
     drop(job);
-    report
+    outcome
 }

@@ -6,12 +6,12 @@ ghost use Rattle.std.specs.Prelude.{◌≡◌, ℕ, ◌<◌, ◌≤◌, ◌^◌,
 ghost use Rattle.mw_expr.specs.Text.{IsShape};
 ghost use Rattle.mw_expr.specs.Values.{AreWords, IsImage};
 
+use super::pairs::text_of;
 use super::trees::push_tree;
-use mw_base::{Cause, Cursor, Items, Line, Name, append_hex, lines};
+use mw_base::{Cause, Cursor, Items, Line, Name, lines};
 use mw_expr::{Expr, Shape, parse_expr, value, width_of};
 use mw_rowfile::named::{hexadecimal, set_word, word};
-use mw_rowfile::texts::push_refusal;
-use mw_rowfile::{Fault, wrong};
+use mw_rowfile::{Fault, File, Report, wrong};
 use std::alloc::Global;
 
 /// The words of a call, as far as they were taken.
@@ -170,12 +170,7 @@ fn is_image(shape: &Shape, memory: &[u32]) -> bool
 }
 
 /// Appends an expression's tree, its width and its value.
-fn push_value(
-    alloc: Global,
-    report: &mut Vec<u8>,
-    given: &Surroundings,
-    expr: &Expr,
-) -> Result<(), Fault>
+fn push_value(report: &mut Report, given: &Surroundings, expr: &Expr) -> Result<(), Fault>
     requires values_fit { AreWords given.now.shape.now.widths given.now.values.now }
     requires memory_fits { IsImage given.now.shape.now given.now.memory.now }
 {
@@ -183,18 +178,19 @@ fn push_value(
         return Err(wrong("an expression that was read has no width"));
     };
     let value = value(expr, given.shape, given.values, given.memory);
-    push_tree(alloc, report, given.names, expr)?;
-    let width = format!(in alloc; " width {width} value ")?;
-    report.extend_from_slice(width.as_bytes())?;
-    append_hex(alloc, report, u128::from(value))?;
-    report.push(b'\n')?;
+    push_tree(report, given.names, expr);
+    report.push(b" width ");
+    report.push_decimal(u64::from(width));
+    report.push(b" value ");
+    report.push_hex(u64::from(value));
+    report.push(b"\n");
     Ok(())
 }
 
 /// Appends what a line of a text is.
 fn push_line(
     alloc: Global,
-    report: &mut Vec<u8>,
+    report: &mut Report,
     text: &[u8],
     given: &Surroundings,
     line: &Line,
@@ -206,63 +202,87 @@ fn push_line(
     let cursor = Cursor::new(text, line, Cause::BadSyntax);
     match parse_expr(alloc, &cursor, given.names, given.shape) {
         Ok(expr) => {
-            let outcome = push_value(alloc, report, given, &expr);
+            let outcome = push_value(report, given, &expr);
             drop(expr);
             outcome
         }
-        Err(refusal) => push_refusal(alloc, report, refusal),
+        Err(refusal) => {
+            report.push_refusal(refusal);
+            Ok(())
+        }
     }
 }
 
-/// What each line of a text is.
-fn answers(alloc: Global, text: &[u8], given: &Surroundings) -> Result<Vec<u8>, Fault>
+/// Appends what each line of a text is.
+fn push_lines(
+    alloc: Global,
+    report: &mut Report,
+    text: &[u8],
+    given: &Surroundings,
+) -> Result<(), Fault>
+    requires short { length text.now < 2 ^ 32 }
     requires shape_fits { IsShape given.now.shape.now }
     requires values_fit { AreWords given.now.shape.now.widths given.now.values.now }
     requires memory_fits { IsImage given.now.shape.now given.now.memory.now }
 {
-    if text.len() > 1_048_576 {
-        return Err(wrong("a text that is too long"));
-    }
-    let mut report = Vec::new(alloc);
     match lines(alloc, text) {
         Ok(found) => {
             for line in &found {
-                push_line(alloc, &mut report, text, given, line)?;
+                push_line(alloc, report, text, given, line)?;
             }
         }
-        Err(refusal) => push_refusal(alloc, &mut report, refusal)?,
+        Err(refusal) => report.push_refusal(refusal),
     }
-    Ok(report)
+    Ok(())
 }
 
-/// A line for each expression of the text, over the elements and the memory of these words.
+/// The words of a call.
+fn words_of(alloc: Global, given: &[String]) -> Result<Words, Fault> {
+    let mut words = Words::new(alloc)?;
+    for word in given {
+        words.take(alloc, word.as_str())?;
+    }
+    Ok(words)
+}
+
+/// Appends what each line of a text is, over the elements and the memory of words.
+fn push_over(alloc: Global, report: &mut Report, words: Words, text: &[u8]) -> Result<(), Fault>
+    requires { length text.now < 2 ^ 32 }
+{
+    let shape = Shape {
+        widths: Items::from_vec(words.widths),
+        address: words.address,
+        word: words.word,
+    };
+    let given = Surroundings {
+        names: &words.names,
+        shape: &shape,
+        values: &words.values,
+        memory: &words.memory,
+    };
+    if is_shape(&shape)
+        && are_words(shape.widths.as_slice(), &words.values)
+        && is_image(&shape, &words.memory)
+    {
+        push_lines(alloc, report, text, &given)
+    } else {
+        Err(wrong("the elements or the memory don't fit their widths"))
+    }
+}
+
+/// Appends a line for each expression of the text, over the elements and the memory of these words.
 ///
 /// # Errors
 ///
 /// Words that the call doesn't have, a value or a word of the memory that doesn't fit its width, a text of more than
 /// 1,048,576 bytes, and want of memory.
-pub fn read(alloc: Global, words: &[String], text: &[u8]) -> Result<Vec<u8>, Fault> {
-    let mut taken = Words::new(alloc)?;
-    for given in words {
-        taken.take(alloc, given.as_str())?;
-    }
-    let shape = Shape {
-        widths: Items::from_vec(taken.widths),
-        address: taken.address,
-        word: taken.word,
-    };
-    let given = Surroundings {
-        names: &taken.names,
-        shape: &shape,
-        values: &taken.values,
-        memory: &taken.memory,
-    };
-    if is_shape(&shape)
-        && are_words(shape.widths.as_slice(), &taken.values)
-        && is_image(&shape, &taken.memory)
-    {
-        answers(alloc, text, &given)
-    } else {
-        Err(wrong("the elements or the memory don't fit their widths"))
-    }
+pub fn read(
+    alloc: Global,
+    report: &mut Report,
+    given: &[String],
+    files: &[File],
+) -> Result<(), Fault> {
+    let text = text_of(files, "text")?;
+    let words = words_of(alloc, given)?;
+    push_over(alloc, report, words, text)
 }

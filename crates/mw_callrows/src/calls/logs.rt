@@ -6,46 +6,47 @@ use super::pairs::{read_job, text_of};
 use mw_base::Refusal;
 use mw_recheck::{Log, print_log, read_log, read_log_of};
 use mw_rowfile::named::{hexadecimal_of, word};
-use mw_rowfile::texts::push_refusal;
-use mw_rowfile::{Fault, File};
+use mw_rowfile::{Fault, File, Report};
 use std::alloc::Global;
 
-/// The lines of a log, or of the first fault of its text.
-fn told(alloc: Global, read: Result<Log, Refusal>) -> Result<Vec<u8>, Fault> {
+/// Appends the lines of a log, or of the first fault of its text.
+fn push_log(alloc: Global, report: &mut Report, read: Result<Log, Refusal>) -> Result<(), Fault> {
     match read {
         Ok(log) => {
-            let report = print_log(alloc, &log);
+            let text = print_log(alloc, &log);
             drop(log);
-            Ok(report?)
+            report.push(&text?);
         }
-        Err(refusal) => {
-            let mut report = Vec::new(alloc);
-            push_refusal(alloc, &mut report, refusal)?;
-            Ok(report)
-        }
+        Err(refusal) => report.push_refusal(refusal),
     }
+    Ok(())
 }
 
-/// The lines of a log of `boundaries=` boundaries, or of the first fault of its text.
+/// Appends the lines of a log of `boundaries=` boundaries, or of the first fault of its text.
 ///
 /// # Errors
 ///
 /// Words or files that aren't what the call reads, and want of memory.
-pub fn read(alloc: Global, given: &[String], files: &[File]) -> Result<Vec<u8>, Fault> {
+pub fn read(
+    alloc: Global,
+    report: &mut Report,
+    given: &[String],
+    files: &[File],
+) -> Result<(), Fault> {
     let boundaries = word(hexadecimal_of(given, "boundaries")?)?;
     let text = text_of(files, "text")?;
-    told(alloc, read_log_of(alloc, boundaries as usize, text))
+    push_log(alloc, report, read_log_of(alloc, boundaries as usize, text))
 }
 
-/// The lines of the log of a job, or of the first fault of its text.
+/// Appends the lines of the log of a job, or of the first fault of its text.
 ///
 /// # Errors
 ///
 /// Files that aren't what the call reads, and want of memory.
-pub fn of_job(alloc: Global, files: &[File]) -> Result<Vec<u8>, Fault> {
+pub fn of_job(alloc: Global, report: &mut Report, files: &[File]) -> Result<(), Fault> {
     let text = text_of(files, "l")?;
     let job = read_job(alloc, files, "r")?;
     let read = read_log(alloc, &job, text);
     drop(job);
-    told(alloc, read)
+    push_log(alloc, report, read)
 }

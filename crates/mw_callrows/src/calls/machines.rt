@@ -1,157 +1,134 @@
 // `call machine`: reads the file `text`. Its machine: the memory, the registers, the temporaries, and the statements,
 // in which expressions are trees and each `if` has both lists; or one line has the first fault.
-use super::relations::refused;
+use super::pairs::text_of;
 use super::trees::{push_name, push_tree};
-use mw_base::{Name, append_decimal};
+use mw_base::Name;
 use mw_descfile::read_machine;
 use mw_expr::Expr;
 use mw_macro::{Machine, Statement};
-use mw_rowfile::{Fault, File, contents, wrong};
+use mw_rowfile::{Fault, File, Report, wrong};
 use std::alloc::Global;
 
 /// Appends a blank and a number.
-fn push_number(alloc: Global, report: &mut Vec<u8>, number: u8) -> Result<(), Fault> {
-    report.push(b' ')?;
-    append_decimal(alloc, report, u64::from(number))?;
-    Ok(())
+fn push_number(report: &mut Report, number: u8) {
+    report.push(b" ");
+    report.push_decimal(u64::from(number));
 }
 
 /// Appends a line for the memory and for each element.
-fn push_elements(alloc: Global, report: &mut Vec<u8>, machine: &Machine) -> Result<(), Fault> {
+fn push_elements(report: &mut Report, machine: &Machine) {
     let shape = machine.shape();
-    report.extend_from_slice(b"memory")?;
-    push_number(alloc, report, shape.address)?;
-    push_number(alloc, report, shape.word)?;
+    report.push(b"memory");
+    push_number(report, shape.address);
+    push_number(report, shape.word);
     let registers = machine.registers() as usize;
     for (number, name) in machine.names().iter().enumerate() {
-        if number < registers {
-            report.extend_from_slice(b"\nregister ")?;
+        let kind: &[u8] = if number < registers {
+            b"\nregister "
         } else {
-            report.extend_from_slice(b"\ntemp ")?;
-        }
-        report.extend_from_slice(name.as_slice())?;
+            b"\ntemp "
+        };
+        report.push(kind);
+        report.push(name.as_slice());
         let width = shape.widths.as_slice().get(number).copied().unwrap_or(0);
-        push_number(alloc, report, width)?;
+        push_number(report, width);
     }
-    report.push(b'\n')?;
-    Ok(())
+    report.push(b"\n");
 }
 
 /// Appends a line of a word and an expression.
-fn push_line(
-    alloc: Global,
-    report: &mut Vec<u8>,
-    names: &[Name],
-    word: &[u8],
-    expr: &Expr,
-) -> Result<(), Fault> {
-    report.extend_from_slice(word)?;
-    push_tree(alloc, report, names, expr)?;
-    report.push(b'\n')?;
-    Ok(())
+fn push_line(report: &mut Report, names: &[Name], word: &[u8], expr: &Expr) {
+    report.push(word);
+    push_tree(report, names, expr);
+    report.push(b"\n");
 }
 
 /// Appends the lines of a statement.
 #[cycle(statements)]
-fn push_statement(
-    alloc: Global,
-    report: &mut Vec<u8>,
-    names: &[Name],
-    statement: &Statement,
-) -> Result<(), Fault> {
+fn push_statement(report: &mut Report, names: &[Name], statement: &Statement) {
     match statement {
         Statement::Assign { target, value } => {
-            push_name(report, names, *target)?;
-            push_line(alloc, report, names, b" := ", value)
+            push_name(report, names, *target);
+            push_line(report, names, b" := ", value);
         }
         Statement::Write { address, value } => {
-            report.extend_from_slice(b"mem[")?;
-            push_tree(alloc, report, names, address)?;
-            push_line(alloc, report, names, b"] := ", value)
+            report.push(b"mem[");
+            push_tree(report, names, address);
+            push_line(report, names, b"] := ", value);
         }
-        Statement::Put(value) => push_line(alloc, report, names, b"put ", value),
+        Statement::Put(value) => push_line(report, names, b"put ", value),
         Statement::Take(target) => {
-            report.extend_from_slice(b"take ")?;
-            push_name(report, names, *target)?;
-            report.push(b'\n')?;
-            Ok(())
+            report.push(b"take ");
+            push_name(report, names, *target);
+            report.push(b"\n");
         }
         Statement::If {
             condition,
             first,
             second,
         } => {
-            push_line(alloc, report, names, b"if ", condition)?;
-            push_statements(alloc, report, names, first)?;
-            report.extend_from_slice(b"else\n")?;
-            push_statements(alloc, report, names, second)?;
-            report.extend_from_slice(b"end\n")?;
-            Ok(())
+            push_line(report, names, b"if ", condition);
+            push_statements(report, names, first);
+            report.push(b"else\n");
+            push_statements(report, names, second);
+            report.push(b"end\n");
         }
     }
 }
 
 /// Appends the lines of some statements.
 #[cycle(statements)]
-fn push_statements(
-    alloc: Global,
-    report: &mut Vec<u8>,
-    names: &[Name],
-    statements: &[Statement],
-) -> Result<(), Fault> {
+fn push_statements(report: &mut Report, names: &[Name], statements: &[Statement]) {
     for statement in statements {
-        push_statement(alloc, report, names, statement)?;
+        push_statement(report, names, statement);
     }
-    Ok(())
 }
 
-/// The names of all elements of a machine, its request with them.
-fn names_of(alloc: Global, machine: &Machine) -> Result<Vec<Name>, Fault> {
-    let mut names = Vec::new(alloc);
+/// Appends the names of all elements of a machine, its request with them.
+fn take_names(alloc: Global, names: &mut Vec<Name>, machine: &Machine) -> Result<(), Fault> {
     for name in machine.names() {
         names.push(Name::new(alloc, name.as_slice())?)?;
     }
     names.push(Name::new(alloc, b"request")?)?;
-    Ok(names)
+    Ok(())
 }
 
 /// The machine of a file.
 pub(super) fn machine_in(alloc: Global, files: &[File], name: &str) -> Result<Machine, Fault> {
-    let text = contents(files, name)?;
-    if text.len() > 1_048_576 {
-        return Err(wrong("a text that is too long"));
-    }
+    let text = text_of(files, name)?;
     match read_machine(alloc, text) {
         Ok(machine) => Ok(machine),
         Err(_) => Err(wrong("the machine is refused")),
     }
 }
 
-/// The lines of a machine.
-fn lines_of(alloc: Global, machine: &Machine) -> Result<Vec<u8>, Fault> {
-    let names = names_of(alloc, machine)?;
-    let mut report = Vec::new(alloc);
-    push_elements(alloc, &mut report, machine)?;
-    report.extend_from_slice(b"step\n")?;
-    push_statements(alloc, &mut report, &names, machine.statements())?;
-    Ok(report)
+/// Appends the lines of a machine.
+fn push_machine(alloc: Global, report: &mut Report, machine: &Machine) -> Result<(), Fault> {
+    let mut names = Vec::new(alloc);
+    let taken = take_names(alloc, &mut names, machine);
+    push_elements(report, machine);
+    report.push(b"step\n");
+    push_statements(report, &names, machine.statements());
+    drop(names);
+    taken
 }
 
-/// The lines of the machine of a text, or of its first fault.
+/// Appends the lines of the machine of a text, or of its first fault.
 ///
 /// # Errors
 ///
 /// A text of more than 1,048,576 bytes, which no file that is read has, and want of memory.
-pub fn read(alloc: Global, text: &[u8]) -> Result<Vec<u8>, Fault> {
-    if text.len() > 1_048_576 {
-        return Err(wrong("a text that is too long"));
-    }
+pub fn read(alloc: Global, report: &mut Report, files: &[File]) -> Result<(), Fault> {
+    let text = text_of(files, "text")?;
     match read_machine(alloc, text) {
         Ok(machine) => {
-            let report = lines_of(alloc, &machine);
+            let outcome = push_machine(alloc, report, &machine);
             drop(machine);
-            report
+            outcome
         }
-        Err(refusal) => refused(alloc, refusal),
+        Err(refusal) => {
+            report.push_refusal(refusal);
+            Ok(())
+        }
     }
 }

@@ -19,7 +19,7 @@ use mw_macro::Machine;
 use mw_rel::{Begin, Job, Pair, Relation, complete, free, holds};
 use mw_rowfile::named::{hexadecimal, hexadecimal_of, set_word, word};
 use mw_rowfile::states::file_words;
-use mw_rowfile::{Fault, File, contents, contents_in, texts, wrong};
+use mw_rowfile::{Fault, File, Report, contents, contents_in, texts, wrong};
 use std::alloc::Global;
 
 /// The text of a file that a reader takes.
@@ -128,20 +128,34 @@ fn take_part(begin: &mut Begin, part: &str) -> Result<(), Fault> {
 
 /// No values but zeros.
 fn no_choice(alloc: Global, given: &[String]) -> Result<Begin, Fault> {
+    let values = zeros(alloc, given, "values")?;
+    let memory = zeros(alloc, given, "memory")?;
+    let env = Env::nothing(alloc);
     Ok(Begin {
-        values: zeros(alloc, given, "values")?,
-        memory: zeros(alloc, given, "memory")?,
-        env: Env::nothing(alloc),
+        values,
+        memory,
+        env,
     })
+}
+
+/// Sets the parts that the file `begin` names.
+fn take_parts(alloc: Global, begin: &mut Begin, files: &[File]) -> Result<(), Fault> {
+    for part in &file_words(alloc, files, "begin")? {
+        take_part(begin, part.as_str())?;
+    }
+    Ok(())
 }
 
 /// What the pair is chosen by.
 fn begin_of(alloc: Global, given: &[String], files: &[File]) -> Result<Begin, Fault> {
     let mut begin = no_choice(alloc, given)?;
-    for part in &file_words(alloc, files, "begin")? {
-        take_part(&mut begin, part.as_str())?;
+    match take_parts(alloc, &mut begin, files) {
+        Ok(()) => Ok(begin),
+        Err(fault) => {
+            drop(begin);
+            Err(fault)
+        }
     }
-    Ok(begin)
 }
 
 /// Whether a job has a boundary of this number.
@@ -152,38 +166,32 @@ fn has(job: &Job, boundary: usize) -> bool
 }
 
 /// Appends a blank and a number.
-fn push_number(alloc: Global, report: &mut Vec<u8>, number: u32) -> Result<(), Fault> {
-    let text = format!(in alloc; " {number:x}")?;
-    report.extend_from_slice(text.as_bytes())?;
-    Ok(())
+fn push_number(report: &mut Report, number: u32) {
+    report.push_named(b" ", u64::from(number));
 }
 
 /// Appends the numbers of the elements that aren't free at a boundary.
-fn push_bound(alloc: Global, report: &mut Vec<u8>, job: &Job, boundary: usize) -> Result<(), Fault>
+fn push_bound(report: &mut Report, job: &Job, boundary: usize)
     requires there { boundary < length (job_of job.now).relation.boundaries }
 {
-    report.extend_from_slice(b"bound")?;
+    report.push(b"bound");
     for number in 0..job.element_count() as u32 {
         if !free(job, boundary, number) {
-            push_number(alloc, report, number)?;
+            push_number(report, number);
         }
     }
-    report.push(b'\n')?;
-    Ok(())
+    report.push(b"\n");
 }
 
 /// Appends the state of the board, and the registers and the memory of the machine.
-fn push_pair(alloc: Global, report: &mut Vec<u8>, pair: &Pair) -> Result<(), Fault> {
-    let board = texts::state(alloc, &pair.board)?;
-    report.extend_from_slice(board.as_bytes())?;
-    report.extend_from_slice(b"\nregisters")?;
+fn push_pair(report: &mut Report, pair: &Pair) {
+    texts::push_state(report, &pair.board);
+    report.push(b"\nregisters");
     for &value in &pair.machine.registers {
-        push_number(alloc, report, value)?;
+        push_number(report, value);
     }
-    let memory = texts::memory(alloc, &pair.machine.memory)?;
-    report.extend_from_slice(memory.as_bytes())?;
-    report.push(b'\n')?;
-    Ok(())
+    texts::push_memory(report, &pair.machine.memory);
+    report.push(b"\n");
 }
 
 /// Whether there is a boundary of this number and a pair is in relation there.
@@ -192,44 +200,43 @@ fn is_held(job: &Job, boundary: usize, pair: &Pair) -> bool {
 }
 
 /// Appends the numbers of the boundaries at which a pair is in relation.
-fn push_held(alloc: Global, report: &mut Vec<u8>, job: &Job, pair: &Pair) -> Result<(), Fault> {
-    report.extend_from_slice(b"held")?;
+fn push_held(report: &mut Report, job: &Job, pair: &Pair) {
+    report.push(b"held");
     for (number, _) in job.relation.boundaries().iter().enumerate() {
         if is_held(job, number, pair) {
-            push_number(alloc, report, number as u32)?;
+            push_number(report, number as u32);
         }
     }
-    report.push(b'\n')?;
-    Ok(())
+    report.push(b"\n");
 }
 
 /// Appends the numbers of the boundaries at which a pair is in relation by the job with the file `other`.
 fn push_other(
     alloc: Global,
-    report: &mut Vec<u8>,
+    report: &mut Report,
     pair: &Pair,
     files: &[File],
 ) -> Result<(), Fault> {
     let other = read_job(alloc, files, "other")?;
-    let outcome = push_held(alloc, report, &other, pair);
+    push_held(report, &other, pair);
     drop(other);
-    outcome
+    Ok(())
 }
 
 /// Appends what a pair is.
 fn push_made(
     alloc: Global,
-    report: &mut Vec<u8>,
+    report: &mut Report,
     job: &Job,
     pair: &Pair,
     files: &[File],
 ) -> Result<(), Fault> {
-    push_pair(alloc, report, pair)?;
-    push_held(alloc, report, job, pair)?;
-    if contents_in(files, "other").is_some() {
-        push_other(alloc, report, pair, files)?;
+    push_pair(report, pair);
+    push_held(report, job, pair);
+    match contents_in(files, "other") {
+        Some(_) => push_other(alloc, report, pair, files),
+        None => Ok(()),
     }
-    Ok(())
 }
 
 /// The number of the boundary.
@@ -243,7 +250,7 @@ fn boundary_number(given: &[String]) -> Result<usize, Fault> {
 /// Appends the pair that is chosen, or that this is no choice.
 fn push_completed(
     alloc: Global,
-    report: &mut Vec<u8>,
+    report: &mut Report,
     job: &Job,
     boundary: usize,
     begin: &Begin,
@@ -252,7 +259,7 @@ fn push_completed(
     requires there { boundary < length (job_of job.now).relation.boundaries }
 {
     if !begin.fits(job, boundary) {
-        report.extend_from_slice(b"no choice\n")?;
+        report.push(b"no choice\n");
         return Ok(());
     }
     let pair = complete(alloc, job, boundary, begin)?;
@@ -262,54 +269,59 @@ fn push_completed(
 }
 
 /// Appends how many elements a job has, and those that aren't free at a boundary.
-fn push_elements(
-    alloc: Global,
-    report: &mut Vec<u8>,
-    job: &Job,
-    boundary: usize,
-) -> Result<(), Fault>
+fn push_elements(report: &mut Report, job: &Job, boundary: usize)
     requires there { boundary < length (job_of job.now).relation.boundaries }
 {
-    report.extend_from_slice(b"elements")?;
-    push_number(alloc, report, job.element_count() as u32)?;
-    report.push(b'\n')?;
-    push_bound(alloc, report, job, boundary)
+    report.push(b"elements");
+    push_number(report, job.element_count() as u32);
+    report.push(b"\n");
+    push_bound(report, job, boundary);
 }
 
-/// What a choice gives.
-fn reported(
+/// Appends what a choice gives.
+fn push_begin(
     alloc: Global,
+    report: &mut Report,
     job: &Job,
     boundary: usize,
     begin: &Begin,
     files: &[File],
-) -> Result<Vec<u8>, Fault> {
+) -> Result<(), Fault> {
     if !has(job, boundary) {
         return Err(wrong("no such boundary"));
     }
-    let mut report = Vec::new(alloc);
-    push_elements(alloc, &mut report, job, boundary)?;
-    push_completed(alloc, &mut report, job, boundary, begin, files)?;
-    Ok(report)
+    push_elements(report, job, boundary);
+    push_completed(alloc, report, job, boundary, begin, files)
 }
 
-/// What the choice of these words gives.
-fn chosen(alloc: Global, given: &[String], files: &[File], job: &Job) -> Result<Vec<u8>, Fault> {
+/// Appends what the choice of these words gives.
+fn push_chosen(
+    alloc: Global,
+    report: &mut Report,
+    given: &[String],
+    files: &[File],
+    job: &Job,
+) -> Result<(), Fault> {
     let boundary = boundary_number(given)?;
     let begin = begin_of(alloc, given, files)?;
-    let report = reported(alloc, job, boundary, &begin, files);
+    let outcome = push_begin(alloc, report, job, boundary, &begin, files);
     drop(begin);
-    report
+    outcome
 }
 
-/// The lines of the pair that these words and files give.
+/// Appends the lines of the pair that these words and files give.
 ///
 /// # Errors
 ///
 /// Words or files that aren't what the call reads, and want of memory.
-pub fn read(alloc: Global, given: &[String], files: &[File]) -> Result<Vec<u8>, Fault> {
+pub fn read(
+    alloc: Global,
+    report: &mut Report,
+    given: &[String],
+    files: &[File],
+) -> Result<(), Fault> {
     let job = read_job(alloc, files, "text")?;
-    let report = chosen(alloc, given, files, &job);
+    let outcome = push_chosen(alloc, report, given, files, &job);
     drop(job);
-    report
+    outcome
 }

@@ -22,7 +22,7 @@ use mw_macro::Machine;
 use mw_rel::{Boundary, Job, Line, Relation, shape_of};
 use mw_rowfile::named::{address, hexadecimal, word};
 use mw_rowfile::states::board_of;
-use mw_rowfile::{Fault, File, text_in, wrong};
+use mw_rowfile::{Fault, File, Report, text_in, wrong};
 use std::alloc::Global;
 
 /// The number of an element, or another of 32 bits.
@@ -255,13 +255,16 @@ fn refusal(alloc: Global, board: Board, machine: Machine, relation: Relation) ->
     }
 }
 
-/// The line of a cause, or of none.
-fn cause_line(alloc: Global, refusal: Option<Cause>) -> Result<Vec<u8>, Fault> {
-    let line = match refusal {
-        None => String::from_str(alloc, "a job\n")?,
-        Some(cause) => format!(in alloc; "refused cause {}\n", cause.number())?,
-    };
-    Ok(Vec::from_slice(alloc, line.as_bytes())?)
+/// Appends the line of a cause, or of none.
+fn push_refusal(report: &mut Report, refusal: Option<Cause>) {
+    match refusal {
+        None => report.push(b"a job\n"),
+        Some(cause) => {
+            report.push(b"refused cause ");
+            report.push_decimal(u64::from(cause.number()));
+            report.push(b"\n");
+        }
+    }
 }
 
 /// Why there is no job of a board, a machine and the boundaries of a text.
@@ -286,16 +289,20 @@ fn refusal_in(
     }
 }
 
-/// Whether there is a job of these files: `a job`, or its cause.
+/// Appends whether there is a job of these files: `a job`, or its cause.
 ///
 /// # Errors
 ///
 /// Files that aren't what the call reads, and want of memory.
-pub fn read(alloc: Global, files: &[File]) -> Result<Vec<u8>, Fault> {
+pub fn read(alloc: Global, report: &mut Report, files: &[File]) -> Result<(), Fault> {
     let text = text_in(files, "text")?;
     let board = board_of(alloc, files, "b")?;
     match machine_in(alloc, files, "k") {
-        Ok(machine) => cause_line(alloc, refusal_in(alloc, board, machine, text)?),
+        Ok(machine) => {
+            let refusal = refusal_in(alloc, board, machine, text)?;
+            push_refusal(report, refusal);
+            Ok(())
+        }
         Err(fault) => {
             drop(board);
             Err(fault)

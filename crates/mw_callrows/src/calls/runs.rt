@@ -8,13 +8,12 @@ ghost use Rattle.mw_cycle.specs.State.{Fits};
 
 use super::pairs::text_of;
 use super::programmed::read_programmed;
-use super::relations::refused;
 use mw_asm::Program;
-use mw_base::{Event, append_hex};
+use mw_base::Event;
 use mw_board::Board;
 use mw_cycle::{Clock, Datapath, State, Whole};
 use mw_rowfile::named::{address, bit_of, hexadecimal_of};
-use mw_rowfile::{Fault, File, wrong};
+use mw_rowfile::{Fault, File, Report, wrong};
 use mw_sim::{Late, Parts, Start, read_start, run_to_boundary};
 use std::alloc::Global;
 
@@ -22,77 +21,62 @@ use std::alloc::Global;
 const MOST_CYCLES: u64 = 100_000;
 
 /// Appends a line: these bytes and a number.
-fn push_line(alloc: Global, report: &mut Vec<u8>, front: &[u8], number: u32) -> Result<(), Fault> {
-    report.extend_from_slice(front)?;
-    append_hex(alloc, report, u128::from(number))?;
-    report.push(b'\n')?;
-    Ok(())
+fn push_line(report: &mut Report, front: &[u8], number: u32) {
+    report.push(front);
+    report.push_hex(u64::from(number));
+    report.push(b"\n");
 }
 
-fn push_event(alloc: Global, report: &mut Vec<u8>, event: Event) -> Result<(), Fault> {
+fn push_event(report: &mut Report, event: Event) {
     match event {
-        Event::Out(word) => push_line(alloc, report, b"out ", word),
-        Event::Taken(word) => push_line(alloc, report, b"taken ", word),
+        Event::Out(word) => push_line(report, b"out ", word),
+        Event::Taken(word) => push_line(report, b"taken ", word),
     }
 }
 
 /// Appends the line of an element, unless it is 0.
-fn push_element(alloc: Global, report: &mut Vec<u8>, name: &[u8], value: u32) -> Result<(), Fault> {
+fn push_element(report: &mut Report, name: &[u8], value: u32) {
     if value != 0 {
-        report.extend_from_slice(b"set b.")?;
-        report.extend_from_slice(name)?;
-        push_line(alloc, report, b" ", value)?;
+        report.push(b"set b.");
+        report.push(name);
+        push_line(report, b" ", value);
     }
-    Ok(())
 }
 
-fn push_memory(alloc: Global, report: &mut Vec<u8>, memory: &[u32]) -> Result<(), Fault> {
+fn push_memory(report: &mut Report, memory: &[u32]) {
     for (address, word) in memory.iter().enumerate() {
         if *word != 0 {
-            report.extend_from_slice(b"mem ")?;
-            append_hex(alloc, report, address as u128)?;
-            push_line(alloc, report, b" ", *word)?;
+            report.push(b"mem ");
+            report.push_hex(address as u64);
+            push_line(report, b" ", *word);
         }
     }
-    Ok(())
 }
 
 /// Appends a state as an environment.
-fn push_state(
-    alloc: Global,
-    report: &mut Vec<u8>,
-    board: &Board,
-    state: &State,
-) -> Result<(), Fault>
+fn push_state(report: &mut Report, board: &Board, state: &State)
     requires { Fits board.now state.now }
 {
-    push_line(alloc, report, b"at ", u32::from(state.at))?;
+    push_line(report, b"at ", u32::from(state.at));
     for number in 0..board.element_count() {
         let name = board.element_name(number).unwrap_or(b"");
-        push_element(alloc, report, name, state.element(board, number))?;
+        push_element(report, name, state.element(board, number));
     }
-    push_element(alloc, report, b"sp", u32::from(state.seq.sp))?;
-    push_memory(alloc, report, &state.memory)
+    push_element(report, b"sp", u32::from(state.seq.sp));
+    push_memory(report, &state.memory);
 }
 
 /// Appends how many cycles were made, the events and the state.
-fn push_run(
-    alloc: Global,
-    report: &mut Vec<u8>,
-    board: &Board,
-    state: &State,
-    clock: Clock,
-    events: &[Event],
-) -> Result<(), Fault>
+fn push_run(report: &mut Report, board: &Board, state: &State, clock: Clock, events: &[Event])
     requires { Fits board.now state.now }
 {
-    let cycles = clock.cycle;
-    let text = format!(in alloc; "cycles {cycles}\n")?;
-    report.extend_from_slice(text.as_bytes())?;
+    report.push(b"cycles ");
+    report.push_decimal(u64::from(clock.cycle));
+    report.push(b"\n");
     for event in events {
-        push_event(alloc, report, *event)?;
+        push_event(report, *event);
     }
-    push_state(alloc, report, board, state)
+    push_state(report, board, state);
 }
 
 /// Where a run ends, how many cycles it has at most, and whether it is made slice by slice.
@@ -103,14 +87,15 @@ struct Asked {
     slices: bool,
 }
 
-/// A run, made by this arithmetic part.
-fn simulated<A: Datapath>(
+/// Makes a run by this arithmetic part, and appends it.
+fn push_simulated<A: Datapath>(
     alloc: Global,
+    report: &mut Report,
     part: &A,
     programmed: &Program,
     start: &mut Start,
     asked: Asked,
-) -> Result<Vec<u8>, Fault>
+) -> Result<(), Fault>
     requires fits { Fits programmed.now.board start.old.state }
     requires env_in { IsEnvironment programmed.now.board start.old.env }
 {
@@ -118,7 +103,6 @@ fn simulated<A: Datapath>(
     let Program { board, made } = programmed;
     let begun = Clock { cycle: 0, taken: 0 };
     let mut events = Vec::with_capacity(alloc, asked.limit as usize)?;
-    let mut report = Vec::new(alloc);
     let ended = run_to_boundary(
         part,
         board,
@@ -133,71 +117,72 @@ fn simulated<A: Datapath>(
     let clock = match ended {
         Ok(clock) => clock,
         Err(Late { clock }) => {
-            report.extend_from_slice(b"late\n")?;
+            report.push(b"late\n");
             clock
         }
     };
-    push_run(alloc, &mut report, board, state, clock, &events)?;
-    Ok(report)
+    push_run(report, board, state, clock, &events);
+    Ok(())
 }
 
-/// The start of a run, printed as an environment.
-fn printed(alloc: Global, board: &Board, state: &State) -> Result<Vec<u8>, Fault>
-    requires { Fits board.now state.now }
-{
-    let mut report = Vec::new(alloc);
-    push_state(alloc, &mut report, board, state)?;
-    Ok(report)
-}
-
-/// What a start comes to: printed where no run is asked for, or a run.
-fn begun(
+/// Appends what a start comes to: printed where no run is asked for, or a run.
+fn push_begun(
     alloc: Global,
+    report: &mut Report,
     programmed: &Program,
     start: &mut Start,
     asked: Option<Asked>,
-) -> Result<Vec<u8>, Fault>
+) -> Result<(), Fault>
     requires fits { Fits programmed.now.board start.old.state }
     requires env_in { IsEnvironment programmed.now.board start.old.env }
 {
     match asked {
-        None => printed(alloc, &programmed.board, &start.state),
-        Some(asked) => {
-            if asked.slices {
-                simulated(alloc, &Parts, programmed, start, asked)
-            } else {
-                simulated(alloc, &Whole, programmed, start, asked)
-            }
+        None => {
+            push_state(report, &programmed.board, &start.state);
+            Ok(())
         }
+        Some(asked) if asked.slices => {
+            push_simulated(alloc, report, &Parts, programmed, start, asked)
+        }
+        Some(asked) => push_simulated(alloc, report, &Whole, programmed, start, asked),
     }
 }
 
-/// What the start of an environment comes to, or its first fault.
-fn of_environment(
+/// Appends what the start of an environment comes to, or its first fault.
+fn push_start(
     alloc: Global,
+    report: &mut Report,
     programmed: &Program,
     text: &[u8],
     asked: Option<Asked>,
-) -> Result<Vec<u8>, Fault>
+) -> Result<(), Fault>
     requires { length text.now < 2 ^ 32 }
 {
     match read_start(alloc, &programmed.board, &programmed.made, text) {
         Ok(mut start) => {
-            let report = begun(alloc, programmed, &mut start, asked);
+            let outcome = push_begun(alloc, report, programmed, &mut start, asked);
             drop(start);
-            report
+            outcome
         }
-        Err(refusal) => refused(alloc, refusal),
+        Err(refusal) => {
+            report.push_refusal(refusal);
+            Ok(())
+        }
     }
 }
 
-/// What the start of the file `e` comes to.
-fn run(alloc: Global, files: &[File], asked: Option<Asked>) -> Result<Vec<u8>, Fault> {
+/// Appends what the start of the file `e` comes to.
+fn run(
+    alloc: Global,
+    report: &mut Report,
+    files: &[File],
+    asked: Option<Asked>,
+) -> Result<(), Fault> {
     let text = text_of(files, "e")?;
     let programmed = read_programmed(alloc, files)?;
-    let report = of_environment(alloc, &programmed, text, asked);
+    let outcome = push_start(alloc, report, &programmed, text, asked);
     drop(programmed);
-    report
+    outcome
 }
 
 /// A number of cycles.
@@ -208,25 +193,30 @@ fn cycles_of(number: u64) -> Result<u32, Fault> {
     Ok(number as u32)
 }
 
-/// The start of a run, as an environment.
+/// Appends the start of a run, as an environment.
 ///
 /// # Errors
 ///
 /// Files that aren't what the call reads, and want of memory.
-pub fn start(alloc: Global, files: &[File]) -> Result<Vec<u8>, Fault> {
-    run(alloc, files, None)
+pub fn start(alloc: Global, report: &mut Report, files: &[File]) -> Result<(), Fault> {
+    run(alloc, report, files, None)
 }
 
-/// A run to the control address `address=`, of `limit=` cycles at most.
+/// Appends a run to the control address `address=`, of `limit=` cycles at most.
 ///
 /// # Errors
 ///
 /// Words or files that aren't what the call reads, and want of memory.
-pub fn until(alloc: Global, given: &[String], files: &[File]) -> Result<Vec<u8>, Fault> {
+pub fn until(
+    alloc: Global,
+    report: &mut Report,
+    given: &[String],
+    files: &[File],
+) -> Result<(), Fault> {
     let asked = Asked {
         address: address(hexadecimal_of(given, "address")?)?,
         limit: cycles_of(hexadecimal_of(given, "limit")?)?,
         slices: bit_of(given, "slices")?,
     };
-    run(alloc, files, Some(asked))
+    run(alloc, report, files, Some(asked))
 }

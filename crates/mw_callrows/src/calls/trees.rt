@@ -1,8 +1,7 @@
 // Expressions as trees: an operation stands in parentheses, with its sign or word before its parts.
 use mw_base::Name;
 use mw_expr::{Expr, Pair2};
-use mw_rowfile::{Fault, wrong};
-use std::alloc::Global;
+use mw_rowfile::Report;
 
 /// What a sign between two operands begins with.
 fn begin_pair(sign: Pair2) -> &'static [u8] {
@@ -18,91 +17,88 @@ fn begin_pair(sign: Pair2) -> &'static [u8] {
     }
 }
 
-/// Appends the name of an element.
-///
-/// # Errors
-///
-/// An element without a name, and want of memory.
-pub(super) fn push_name(text: &mut Vec<u8>, names: &[Name], number: u32) -> Result<(), Fault> {
+/// Appends the name of an element, or `?` where it has none.
+pub(super) fn push_name(report: &mut Report, names: &[Name], number: u32) {
     match names.get(number as usize) {
-        Some(name) => Ok(text.extend_from_slice(name.as_slice())?),
-        None => Err(wrong("no such element")),
+        Some(name) => report.push(name.as_slice()),
+        None => report.push(b"?"),
     }
+}
+
+/// Appends a number and its width.
+fn push_constant(report: &mut Report, number: u32, width: u8) {
+    report.push_decimal(u64::from(number));
+    report.push(b"#");
+    report.push_decimal(u64::from(width));
+}
+
+/// Appends what the bits of an expression begin with.
+fn begin_part(report: &mut Report, high: u8, low: u8) {
+    report.push(b"([");
+    report.push_decimal(u64::from(high));
+    report.push(b":");
+    report.push_decimal(u64::from(low));
+    report.push(b"] ");
+}
+
+/// Appends what an expression that is made wider begins with.
+fn begin_widened(report: &mut Report, width: u8) {
+    report.push(b"(zext ");
+    report.push_decimal(u64::from(width));
+    report.push(b" ");
 }
 
 /// Appends an expression over elements of these names: an element's name, `VALUE#WIDTH`, or an operation of the form
 /// `(~ E)`, `(+ E E)` with any sign between two operands, `(? E E E)`, `([HI:LO] E)`, `({} E E ..)`, `(zext W E)` or
 /// `(mem E)`.
-///
-/// # Errors
-///
-/// An element without a name, and want of memory.
 #[cycle(trees)]
-pub fn push_tree(
-    alloc: Global,
-    text: &mut Vec<u8>,
-    names: &[Name],
-    expr: &Expr,
-) -> Result<(), Fault> {
+pub fn push_tree(report: &mut Report, names: &[Name], expr: &Expr) {
     match expr {
-        Expr::Element(number) => return push_name(text, names, *number),
-        Expr::Con(number, width) => {
-            let constant = format!(in alloc; "{number}#{width}")?;
-            text.extend_from_slice(constant.as_bytes())?;
-            return Ok(());
-        }
+        Expr::Element(number) => return push_name(report, names, *number),
+        Expr::Con(number, width) => return push_constant(report, *number, *width),
         Expr::Not(e) => {
-            text.extend_from_slice(b"(~ ")?;
-            push_tree(alloc, text, names, e)?;
+            report.push(b"(~ ");
+            push_tree(report, names, e);
         }
         Expr::Two(sign, a, b) => {
-            text.extend_from_slice(begin_pair(*sign))?;
-            push_tree(alloc, text, names, a)?;
-            text.push(b' ')?;
-            push_tree(alloc, text, names, b)?;
+            report.push(begin_pair(*sign));
+            push_tree(report, names, a);
+            report.push(b" ");
+            push_tree(report, names, b);
         }
         Expr::Choose(condition, a, b) => {
-            text.extend_from_slice(b"(? ")?;
-            push_tree(alloc, text, names, condition)?;
-            text.push(b' ')?;
-            push_tree(alloc, text, names, a)?;
-            text.push(b' ')?;
-            push_tree(alloc, text, names, b)?;
+            report.push(b"(? ");
+            push_tree(report, names, condition);
+            report.push(b" ");
+            push_tree(report, names, a);
+            report.push(b" ");
+            push_tree(report, names, b);
         }
         Expr::Part(e, high, low) => {
-            let begin = format!(in alloc; "([{high}:{low}] ")?;
-            text.extend_from_slice(begin.as_bytes())?;
-            push_tree(alloc, text, names, e)?;
+            begin_part(report, *high, *low);
+            push_tree(report, names, e);
         }
         Expr::Join(parts) => {
-            text.extend_from_slice(b"({}")?;
-            push_parts(alloc, text, names, parts)?;
+            report.push(b"({}");
+            push_parts(report, names, parts);
         }
         Expr::Widen(e, width) => {
-            let begin = format!(in alloc; "(zext {width} ")?;
-            text.extend_from_slice(begin.as_bytes())?;
-            push_tree(alloc, text, names, e)?;
+            begin_widened(report, *width);
+            push_tree(report, names, e);
         }
         Expr::Memory(address) => {
-            text.extend_from_slice(b"(mem ")?;
-            push_tree(alloc, text, names, address)?;
+            report.push(b"(mem ");
+            push_tree(report, names, address);
         }
     }
-    text.push(b')')?;
-    Ok(())
+    report.push(b")");
 }
 
 /// Appends the parts of a join, each behind a blank.
 #[cycle(trees)]
-fn push_parts(
-    alloc: Global,
-    text: &mut Vec<u8>,
-    names: &[Name],
-    parts: &[Expr],
-) -> Result<(), Fault> {
+fn push_parts(report: &mut Report, names: &[Name], parts: &[Expr]) {
     for part in parts {
-        text.push(b' ')?;
-        push_tree(alloc, text, names, part)?;
+        report.push(b" ");
+        push_tree(report, names, part);
     }
-    Ok(())
 }

@@ -11,7 +11,7 @@ use mw_asm::Program;
 use mw_board::Board;
 use mw_revise::{Twin, TwinDifference, print_twin};
 use mw_rowfile::named::{hexadecimal, word};
-use mw_rowfile::{Fault, File, wrong};
+use mw_rowfile::{Fault, File, Report, wrong};
 use mw_sim::{Start, read_start};
 use std::alloc::Global;
 
@@ -72,67 +72,71 @@ fn start_in(alloc: Global, program: &Program, files: &[File], name: &str) -> Res
     }
 }
 
-/// The text of the twin start of these starts.
-fn printed(
-    alloc: Global,
-    board: &Board,
-    before: Start,
-    after: Start,
-    difference: TwinDifference,
-) -> Result<Vec<u8>, Fault>
-    requires before { Fits board.now before.state }
-    requires after { Fits board.now after.state }
+/// Appends the text of a twin start.
+fn push_twin(alloc: Global, report: &mut Report, board: &Board, twin: &Twin) -> Result<(), Fault>
+    requires before { Fits board.now twin.now.before.state }
+    requires after { Fits board.now twin.now.after.state }
 {
+    let text = print_twin(alloc, board, twin)?;
+    report.push(&text);
+    Ok(())
+}
+
+/// Appends the text of the twin start of a start and that of the file `new`.
+fn push_beside(
+    alloc: Global,
+    report: &mut Report,
+    program: &Program,
+    before: Start,
+    files: &[File],
+    difference: TwinDifference,
+) -> Result<(), Fault>
+    requires { Fits program.now.board before.state }
+{
+    let after = match start_in(alloc, program, files, "new") {
+        Ok(after) => after,
+        Err(fault) => {
+            drop(before);
+            return Err(fault);
+        }
+    };
     let twin = Twin {
         boundary: 0,
         before,
         after,
         difference,
     };
-    let text = print_twin(alloc, board, &twin);
+    let outcome = push_twin(alloc, report, &program.board, &twin);
     drop(twin);
-    Ok(text?)
+    outcome
 }
 
-/// The same of a start and that of the file `new`.
-fn beside(
+/// Appends the same of the starts of the files `old` and `new`, which shows what these words name.
+fn push_of_program(
     alloc: Global,
-    program: &Program,
-    before: Start,
-    files: &[File],
-    difference: TwinDifference,
-) -> Result<Vec<u8>, Fault>
-    requires { Fits program.now.board before.state }
-{
-    match start_in(alloc, program, files, "new") {
-        Ok(after) => printed(alloc, &program.board, before, after, difference),
-        Err(fault) => {
-            drop(before);
-            Err(fault)
-        }
-    }
-}
-
-/// The same of the starts of the files `old` and `new`, which shows what these words name.
-fn of_program(
-    alloc: Global,
+    report: &mut Report,
     program: &Program,
     given: &[String],
     files: &[File],
-) -> Result<Vec<u8>, Fault> {
+) -> Result<(), Fault> {
     let difference = difference_of(&program.board, given)?;
     let before = start_in(alloc, program, files, "old")?;
-    beside(alloc, program, before, files, difference)
+    push_beside(alloc, report, program, before, files, difference)
 }
 
-/// The text of the twin start that words and files give.
+/// Appends the text of the twin start that words and files give.
 ///
 /// # Errors
 ///
 /// Words or files that aren't what the call reads, and want of memory.
-pub fn print(alloc: Global, given: &[String], files: &[File]) -> Result<Vec<u8>, Fault> {
+pub fn print(
+    alloc: Global,
+    report: &mut Report,
+    given: &[String],
+    files: &[File],
+) -> Result<(), Fault> {
     let program = read_programmed(alloc, files)?;
-    let report = of_program(alloc, &program, given, files);
+    let outcome = push_of_program(alloc, report, &program, given, files);
     drop(program);
-    report
+    outcome
 }

@@ -4,7 +4,7 @@ use Rattle.mw_fork.specs.Forks.{IsForkOf}
 use Rattle.mw_callrows.proofs.calls.differs.push_cases.Given as goal
 
 abbrev pub invariant-loop : goal.invariant-loop
-invariant-loop l = record {
+invariant-loop g l = record {
   of : IsForkOf (job_of l.job) l.fork;
   boundary : l.fork.boundary ≡ l.boundary;
 }

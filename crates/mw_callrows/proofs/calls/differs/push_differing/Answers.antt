@@ -7,7 +7,7 @@ use Rattle.mw_explore.specs.Cases.{At}
 use Rattle.mw_callrows.proofs.calls.differs.push_differing.Goals as goal
 
 pub counter_of-requires-clause-differs : goal.counter_of-requires-clause-differs
-counter_of-requires-clause-differs c =
+counter_of-requires-clause-differs g c =
     let job = job_of c.args.job.now in
     let fork = c.args.fork.now in
     let given = c.requires.given in
