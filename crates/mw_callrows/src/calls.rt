@@ -17,6 +17,7 @@ mod runs;
 mod steps;
 mod tokens;
 mod trees;
+mod twins;
 
 use mw_rowfile::{Fault, File, contents, text_in, wrong};
 use mw_symrows::{shortcuts, symbolic};
@@ -33,6 +34,7 @@ pub fn made(alloc: Global, words: &[String], files: &[File]) -> Result<Vec<u8>, 
         "machine" => machines::read(alloc, contents(files, "text")?),
         "relation" => relations::read(alloc, files),
         "keep" => keeps::read(alloc, files),
+        "twin" => twins::print(alloc, given, files),
         "pair" => pairs::read(alloc, given, files),
         "plain" => plain::read(alloc, files),
         "number" => numbers::read(alloc, given),
