@@ -82,17 +82,17 @@ other_on a b true is other = absurd (other (eqb-true a b is))
 other_on a b false is other = is
 
 -- the first item of a list that passes a test
-first_in : (test : Boundary → Bool) (from n : ℕ) (xs : List Boundary) (d : Boundary) → n < length xs
-    → ((k : ℕ) (x : Boundary) → k < n → slice_get xs k ≡ Some x → test x ≡ false)
-    → ((x : Boundary) → slice_get xs n ≡ Some x → test x ≡ true) → position_from test from xs ≡ Some (from + n)
-first_in test from n [] d below others is = absurd (omega arith)
-first_in test from zero (x ∷ rest) d below others is =
+pub first_in : {A : Type 0} (test : A → Bool) (from n : ℕ) (xs : List A) → n < length xs
+    → ((k : ℕ) (x : A) → k < n → slice_get xs k ≡ Some x → test x ≡ false)
+    → ((x : A) → slice_get xs n ≡ Some x → test x ≡ true) → position_from test from xs ≡ Some (from + n)
+first_in test from n [] below others is = absurd (omega arith)
+first_in test from zero (x ∷ rest) below others is =
     let place : from ≡ from + 0 = omega arith in
     rw (is x refl) (ap Some place)
-first_in test from (suc n) (x ∷ rest) d below others is =
+first_in test from (suc n) (x ∷ rest) below others is =
     let place : from + 1 + n ≡ from + suc n = omega arith in
     rw (others 0 x (omega arith) refl)
-    (first_in test (from + 1) n rest d (omega arith) (λ k y before at. others (suc k) y (omega arith) at) is
+    (first_in test (from + 1) n rest (omega arith) (λ k y before at. others (suc k) y (omega arith) at) is
     ∙ ap Some place)
 
 some_same : (x y : Boundary) → Some x ≡ Some y → x ≡ y
@@ -106,7 +106,7 @@ number_is job n is below =
     let test = λ (boundary : Boundary). boundary.address == address in
     let place : 0 + n ≡ n = omega arith in
     position_from-zero test all
-    ∙ first_in test 0 n all no_boundary below
+    ∙ first_in test 0 n all below
     (λ k x before at.
     let this : numbered job k ≡ x = some_same (numbered job k) x (sym (there all k no_boundary (omega arith)) ∙ at) in
     subst (λ (boundary : Boundary). test boundary ≡ false) this

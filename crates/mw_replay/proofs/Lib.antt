@@ -16,6 +16,8 @@ pub mod Sets
 pub mod Names
 pub mod Owned
 pub mod ReadBack
+pub mod StateBack
+pub mod StartBack
 pub mod Trimmed
 pub mod Zeros
 pub mod Heads

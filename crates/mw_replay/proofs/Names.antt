@@ -1,6 +1,6 @@
 -- The names of the elements of both sides: each is spelled as one, and none stands twice on one side.
 use Rattle.std.proofs.Common.{◌≡◌, ◌≢◌, ℕ, zero, suc, ◌+◌, ◌<◌, List, [], ◌∷◌, ◌++◌, map, length, slice_get, Bool, true}
-use Rattle.std.proofs.Common.{false, not, Some, Result, Ok, Err, length-append, refl, sym, ◌∙◌, subst, arith, inl, inr}
+use Rattle.std.proofs.Common.{false, not, Some, Result, Ok, Err, length-append, refl, sym, ap, ◌∙◌, subst, arith, inl, inr}
 use Rattle.std.specs.Prelude.{◌&&◌, ◌||◌}
 use Rattle.std.specs.List.{list_all, list_any}
 use Rattle.std.specs.Str.{bytes_eq}
@@ -18,7 +18,7 @@ use Rattle.mw_board.specs.Check.{flipflops_from, in_load, list_check, lists_chec
 use Rattle.mw_board.specs.Check.{points_check, sizes_check}
 use Rattle.mw_board.specs.Depth.{depth_of}
 use Rattle.mw_board.specs.Elements.{element_count, element_name, is_reserved, names_before, names_behind}
-use Rattle.mw_board.specs.Elements.{names_behind_of}
+use Rattle.mw_board.specs.Elements.{names_behind_of, stack_pointer_name}
 use Rattle.mw_board.specs.Keys.{control_key, flipflop_key, name_key}
 use Rattle.mw_board.specs.Rules.{Verdict, all_of, ask, control_rule, flipflop_name_rule, flipflops_rule}
 use Rattle.mw_board.specs.Rules.{is_flipflop_name, load_rule}
@@ -264,6 +264,28 @@ are_behind board = elim (depth_known board) [
   | inl five ↦ rw five (record { once = refl; apart = refl; spelled = refl })
   | inr nine ↦ rw nine (record { once = refl; apart = refl; spelled = refl })
 ]
+
+-- none is that of the stack pointer
+pointer_free : (depth : ℕ) (name : List ℕ) → is_reserved depth name ≡ false → bytes_eq name stack_pointer_name ≡ false
+pointer_free depth name free =
+    let one = or_none (list_any (bytes_eq name) names_before) _ free in
+    (or_none (list_any (bytes_eq name) (names_behind depth)) _ one.1).1
+
+no_pointer_behind : (board : BoardParts)
+    → list_all (λ name. not (bytes_eq name stack_pointer_name)) (names_behind_of board) ≡ true
+no_pointer_behind board = elim (depth_known board) [ inl five ↦ rw five refl | inr nine ↦ rw nine refl ]
+
+pub no_pointer : (board : BoardParts) → check_of board ≡ Ok tt
+    → Each (λ name. not (bytes_eq name stack_pointer_name)) (board_names board)
+unfolding board_names
+no_pointer board is =
+    let test = λ (name : List ℕ). not (bytes_eq name stack_pointer_name) in
+    let new = flips_new board [] 0 board.flipflop (flips_kept board is) in
+    let flips : Each test (names_of board.flipflop) =
+    λ i name at. ap not (pointer_free (depth_of board) name (new i name at).free) in
+    each_both test names_before (names_of board.flipflop ++ names_behind_of board) (all_each test names_before refl)
+    (each_both test (names_of board.flipflop) (names_behind_of board) flips
+    (all_each test (names_behind_of board) (no_pointer_behind board)))
 
 pub board_once : (board : BoardParts) → check_of board ≡ Ok tt → Once (board_names board)
 unfolding board_names

@@ -62,7 +62,7 @@ machine_named job e past inside =
     there job.machine.names place [] inside ∙ ap Some (sym name)
 
 -- two places of a list without a name twice have two names
-two_names : (names : List (List ℕ)) (i j : ℕ) (x y : List ℕ) → Once names → i < j → slice_get names i ≡ Some x
+pub two_names : (names : List (List ℕ)) (i j : ℕ) (x y : List ℕ) → Once names → i < j → slice_get names i ≡ Some x
     → slice_get names j ≡ Some y → y ≢ x
 two_names names i j x y once before one two same = once i j x before one (two ∙ ap Some same)
 
@@ -151,7 +151,7 @@ found job boundary e is checked below =
 
 -- ---- names
 
-spelled_short : (name : List ℕ) → is_name name ≡ true → (is_spelled_as_name name ≡ true) × (length name ≤ 64)
+pub spelled_short : (name : List ℕ) → is_name name ≡ true → (is_spelled_as_name name ≡ true) × (length name ≤ 64)
 unfolding is_name
 spelled_short name is =
     let parts = and_parts (is_spelled_as_name name) (nat_le (length name) 64) is in
@@ -203,7 +203,8 @@ value_below job boundary begin e is below =
 
 pub is_settable : (job : Job) (boundary : Boundary) (begin : Begin) (e : ℕ) → IsJob job
     → check_of job.board ≡ Ok tt → IsBegin job boundary begin → e < length job.relation.shape.widths
-    → IsSettable job (settables_of job boundary) (free_value (is_on_no_left boundary) begin.values e) e
+    → IsSettable (owner_of job e) (name_of job e) (settables_of job boundary)
+    (free_value (is_on_no_left boundary) begin.values e) e
 is_settable job boundary begin e is checked starts below =
     let value = free_value (is_on_no_left boundary) begin.values e in
     let width = slice_index job.relation.shape.widths e in

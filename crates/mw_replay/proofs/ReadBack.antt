@@ -13,7 +13,9 @@ use Rattle.mw_base.specs.declared.token.Kind.TheVariants.{Name}
 use Rattle.mw_base.specs.Lines.{lines_of}
 use Rattle.mw_base.specs.Symbols.{spelled}
 use Rattle.mw_base.specs.TokenLines.{lines_from}
+use Rattle.mw_board.specs.declared.parts.BoardParts.{BoardParts}
 use Rattle.mw_board.specs.Check.{check_of}
+use Rattle.mw_board.specs.Valid.{IsBoard}
 use Rattle.mw_asm.specs.declared.assembled.Label.{Label}
 use Rattle.mw_cycle.specs.Environment.{Environment, no_values}
 use Rattle.mw_cycle.specs.Trimmed.{shortened}
@@ -25,6 +27,7 @@ use Rattle.mw_rel.specs.Job.{Job, IsJob, shape_of}
 use Rattle.mw_rel.specs.Relation.{Boundary}
 use Rattle.mw_rel.proofs.Completed.{given_values}
 use Rattle.mw_rel.proofs.Standing.{board_address}
+use Rattle.mw_sim.specs.declared.settings.Settable.{Settable}
 use Rattle.mw_sim.specs.Settings.{Settings, nothing_given, with_line}
 use Rattle.mw_sim.specs.Start.{environment_with}
 use Rattle.mw_replay.specs.Counter.{Counter, IsCounter}
@@ -105,19 +108,19 @@ memory_words job memory a is image =
     ap (λ s. s.word) is.matched.parts.shape ∙ is.matched.word in
     subst (λ w. slice_index memory a < 2 ^ w) word (image.words a)
 
-memory_go : (P : Settings → Type 0) (job : Job) (boundary : Boundary) (text rest memory values : List ℕ)
-    (set : List Bool) → IsJob job → IsImage job.relation.shape memory
-    → ((written : List Bool) → Goes P (with_line (settables_of job boundary) job.board.width text) text rest
+-- the lines of a memory of a board
+pub memory_go : (P : Settings → Type 0) (board : BoardParts) (elements : List Settable)
+    (text rest memory values : List ℕ) (set : List Bool) → IsBoard board → length memory ≡ 2 ^ board.address
+    → ((a : ℕ) → slice_index memory a < 2 ^ board.width)
+    → ((written : List Bool) → Goes P (with_line elements board.width text) text rest
     (given_with memory written no_values values set))
-    → Goes P (with_line (settables_of job boundary) job.board.width text) text (memory_lines memory ++ rest)
-    (given_with (replicate (2 ^ job.board.address) 0) (replicate (2 ^ job.board.address) false) no_values values set)
-memory_go P job boundary text rest memory values set is image next =
-    let elements = settables_of job boundary in
-    let width = job.board.width in
+    → Goes P (with_line elements board.width text) text (memory_lines memory ++ rest)
+    (given_with (replicate (2 ^ board.address) 0) (replicate (2 ^ board.address) false) no_values values set)
+memory_go P board elements text rest memory values set is size words next =
+    let width = board.width in
     let step = with_line elements width text in
     let make = written_with values set no_values in
-    let size = memory_size job memory is image in
-    let most : 2 ^ job.board.address ≤ 2 ^ 16 = pow_mono is.board.sizes.address_most in
+    let most : 2 ^ board.address ≤ 2 ^ 16 = pow_mono is.sizes.address_most in
     let whole : map (slice_index memory) (range_with_len 0 (length memory)) ≡ memory =
     made_by_number memory 0 (slice_index memory) (λ i.
     let place : 0 + i ≡ i = omega arith in
@@ -128,8 +131,7 @@ memory_go P job boundary text rest memory values set is image next =
     (length memory)
     (λ address inside.
     let low : address < 2 ^ 32 = omega arith in
-    word_fills P elements width text memory address values set no_values low (memory_words job memory address is image)
-    is.board.sizes.most)
+    word_fills P elements width text memory address values set no_values low (words address) is.sizes.most)
     0 (length memory) (omega arith) [] [] rest refl refl
     (λ written. subst (λ words. Goes P step text rest (make words written)) (sym whole) (next written)))
 
@@ -177,7 +179,9 @@ behind_goes job counter text is checked counts short =
     subst (λ count. Goes P step text (behind job counter) (nothing_given count words))
     (sym (settables_count job boundary))
     (sets_go P job boundary text _ begin (replicate words 0) (replicate words false) is checked counts.begin
-    (λ set. memory_go P job boundary text _ begin.memory values set is counts.begin.memory
+    (λ set. memory_go P job.board (settables_of job boundary) text _ begin.memory values set is.board
+    (memory_size job begin.memory is counts.begin.memory)
+    (λ a. memory_words job begin.memory a is counts.begin.memory)
     (λ written. lists_go P job.board (settables_of job boundary) text begin.env begin.memory written values set
     is.board.sizes.most counts.env short (end_is job counter written set counts))))
 

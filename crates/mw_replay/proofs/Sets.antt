@@ -56,7 +56,8 @@ few_bits n few =
 
 -- ---- an element
 
-letter_of : Owner → ℕ
+-- the letter before a name
+unfoldable pub letter_of : Owner → ℕ
 letter_of Board = 98
 letter_of Machine = 109
 
@@ -97,35 +98,35 @@ set_short letter name value short few =
     omega (arith, length-append name (32 ∷ hex value), hex_short value few)
 
 -- the names and the bounds of elements that lines may set
-pub record IsSettable (job : Job) (elements : List Settable) (value e : ℕ) : Type 0 where
-  pub named : number_named elements (owner_text (owner_of job e)) (name_of job e) ≡ Some e
-  pub spelled : is_spelled_as_name (name_of job e) ≡ true
-  pub short : length (name_of job e) ≤ 64
+pub record IsSettable (owner : Owner) (name : List ℕ) (elements : List Settable) (value e : ℕ) : Type 0 where
+  pub named : number_named elements (owner_text owner) name ≡ Some e
+  pub spelled : is_spelled_as_name name ≡ true
+  pub short : length name ≤ 64
   pub few : value < 2 ^ 32
   pub free : (value == 0) ≡ false → is_free (slice_get elements e) ≡ true
   pub below : value < bound_of (slice_get elements e)
 
-one_set : (P : Settings → Type 0) (job : Job) (elements : List Settable) (width : ℕ) (text : List ℕ) (value e : ℕ)
-    (memory : List ℕ) (written : List Bool) (env : Environment) (before after : List ℕ)
-    (flags later : List Bool) (rest : List ℕ) → IsSettable job elements value e → length before ≡ e
+-- the line of a value, or none where it is 0
+pub one_set : (P : Settings → Type 0) (owner : Owner) (name : List ℕ) (elements : List Settable) (width : ℕ)
+    (text : List ℕ) (value e : ℕ) (memory : List ℕ) (written : List Bool) (env : Environment)
+    (before after : List ℕ) (flags later : List Bool) (rest : List ℕ)
+    → IsSettable owner name elements value e → length before ≡ e
     → length flags ≡ e
     → ((flag : Bool) → Goes P (with_line elements width text) text rest
     (given_with memory written env (before ++ value ∷ after) (flags ++ flag ∷ later)))
     → (b : Bool) → (value == 0) ≡ b
     → Goes P (with_line elements width text) text
-    (cond b [] (line (set_bytes (letter_of (owner_of job e)) (name_of job e) value)) ++ rest)
+    (cond b [] (line (set_bytes (letter_of owner) name value)) ++ rest)
     (given_with memory written env (before ++ 0 ∷ after) (flags ++ false ∷ later))
-one_set P job elements width text value e memory written env before after flags later rest is size
+one_set P owner name elements width text value e memory written env before after flags later rest is size
     flagged next true test =
     let none : value ≡ 0 = grind (arith, nat_tests) in
     subst (λ v. Goes P (with_line elements width text) text rest
     (given_with memory written env (before ++ v ∷ after) (flags ++ false ∷ later))) none
     (next false)
-one_set P job elements width text value e memory written env before after flags later rest is size
+one_set P owner name elements width text value e memory written env before after flags later rest is size
     flagged next false test =
-    let owner = owner_of job e in
     let letter = letter_of owner in
-    let name = name_of job e in
     let make = given_with memory written env in
     let given = make (before ++ 0 ∷ after) (flags ++ false ∷ later) in
     let named : number_named elements (letter ∷ []) name ≡ Some e =
@@ -142,7 +143,7 @@ one_set P job elements width text value e memory written env before after flags 
 
 pub set_fills : (P : Settings → Type 0) (job : Job) (elements : List Settable) (width : ℕ) (text : List ℕ)
     (value : ℕ → ℕ) (e : ℕ) (memory : List ℕ) (written : List Bool) (env : Environment)
-    → IsSettable job elements (value e) e
+    → IsSettable (owner_of job e) (name_of job e) elements (value e) e
     → Fills P (with_line elements width text) text (λ e. set_line job e (value e)) value
     (given_with memory written env) e
 unfolding set_line
@@ -152,8 +153,8 @@ set_fills P job elements width text value e memory written env is before after f
     let bytes = set_text (owner_of job e) (name_of job e) v in
     subst (λ (bytes : List ℕ). Goes P (with_line elements width text) text (cond (v == 0) [] (line bytes) ++ rest)
     (given_with memory written env (before ++ 0 ∷ after) (flags ++ false ∷ later))) (sym bytes)
-    (one_set P job elements width text v e memory written env before after flags later rest is size
-    flagged next (v == 0) refl)
+    (one_set P (owner_of job e) (name_of job e) elements width text v e memory written env before after flags later
+    rest is size flagged next (v == 0) refl)
 
 -- ---- a word of the memory
 

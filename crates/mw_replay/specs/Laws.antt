@@ -1,13 +1,20 @@
 -- Laws of counters and replays.
-use Rattle.std.specs.Prelude.{◌≡◌, ◌↔◌, ℕ, ◌+◌, ◌≤◌, ◌<◌, length, Some}
+use Rattle.std.specs.Prelude.{◌≡◌, ◌↔◌, ℕ, ◌+◌, ◌≤◌, ◌<◌, List, ◌++◌, length, Some, Ok}
+use Rattle.mw_asm.specs.declared.assembled.Label.{Label}
+use Rattle.mw_board.specs.declared.parts.BoardParts.{BoardParts}
+use Rattle.mw_board.specs.Check.{check_of}
 use Rattle.mw_cycle.specs.declared.environment.Clock.{Clock}
-use Rattle.mw_cycle.specs.Environment.{Environment, given_at}
+use Rattle.mw_cycle.specs.Environment.{Environment, IsEnvironment, given_at}
+use Rattle.mw_cycle.specs.State.{BoardState, Fits}
 use Rattle.mw_cycle.specs.Trimmed.{shortened, IsTrimmed}
 use Rattle.mw_rel.specs.declared.difference.Difference.{Difference}
 use Rattle.mw_rel.specs.Differs.{difference_of, DiffersAt}
 use Rattle.mw_rel.specs.Job.{Job, IsJob}
 use Rattle.mw_rel.specs.Start.{Start, IsStart}
+use Rattle.mw_sim.specs.Start.{start_of}
+use Rattle.mw_sim.specs.StateText.{state_text}
 use Rattle.mw_replay.specs.Counter.{Counter, IsCounter, IsStartOf}
+use Rattle.mw_replay.specs.CounterPrinted.{AreShort, environment_lines}
 use Rattle.mw_replay.specs.Replay.{IsReached}
 
 -- a counter gives one start at most
@@ -45,3 +52,11 @@ ZerosShowNothing = (job : Job) (start : Start)
 -- an environment with no 0 at a list's end is the same without the zeros there
 abbrev pub NothingIsCut : Type 0
 NothingIsCut = (env : Environment) → IsTrimmed env → shortened env ≡ env
+
+-- the lines of a state that fits a board and those of an environment are read as both, whatever the labels, but for the
+-- zeros at the lists' ends
+abbrev pub StartsReadBack : Type 0
+StartsReadBack = (board : BoardParts) (labels : List Label) (state : BoardState) (env : Environment)
+    → check_of board ≡ Ok tt → Fits board state → IsEnvironment board env → AreShort (shortened env)
+    → start_of board labels (state_text board state ++ environment_lines env)
+    ≡ Ok (record { state = state; env = shortened env })

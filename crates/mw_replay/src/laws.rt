@@ -1,6 +1,6 @@
-// Laws of counters and replays.
+// Laws of counters, starts and replays.
 ghost use Rattle.mw_replay.specs.Laws.{StartsAreOne, CountersGiveStarts, StepsDiffer, NoneDiffersBefore};
-ghost use Rattle.mw_replay.specs.Laws.{ZerosGiveNothing, ZerosShowNothing, NothingIsCut};
+ghost use Rattle.mw_replay.specs.Laws.{ZerosGiveNothing, ZerosShowNothing, NothingIsCut, StartsReadBack};
 
 /// The law of one start: a counter gives one start at most, since its pair is the one in relation with its values and
 /// its memory.
@@ -38,4 +38,10 @@ pub fn zeros_show_nothing()
 /// counter is read back as it was.
 pub fn nothing_is_cut()
     ensures { NothingIsCut }
+{}
+
+/// The law of what is read back: the lines that `append_state` of `mw_sim` and `append_environment` append are read by
+/// `read_start` as the state and the environment, whatever the labels, but for the zeros at the lists' ends.
+pub fn starts_read_back()
+    ensures { StartsReadBack }
 {}

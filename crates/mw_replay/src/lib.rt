@@ -13,8 +13,8 @@ mod text;
 
 pub use counter::Counter;
 pub use laws::{
-    counters_give_starts, none_differs_before, nothing_is_cut, starts_are_one, steps_differ,
-    zeros_give_nothing, zeros_show_nothing,
+    counters_give_starts, none_differs_before, nothing_is_cut, starts_are_one, starts_read_back,
+    steps_differ, zeros_give_nothing, zeros_show_nothing,
 };
 pub use mw_rel::Difference;
 pub use one_replay::replay;
