@@ -19,13 +19,14 @@ use Rattle.mw_ready.proofs.Thinning.{cycle_given, line_thinned, runs_are_thinned
 use Rattle.mw_revise.specs.declared.keep.Block.{Block}
 use Rattle.mw_revise.specs.declared.programs.Side.{Side}
 use Rattle.mw_revise.specs.declared.programs.Side.TheVariants.{Old, New}
-use Rattle.mw_revise.specs.Laws.{NoneDiffersAlike, ThinnedAreTwinStarts, TwinCasesAreThinned}
+use Rattle.mw_revise.specs.Laws.{AgreeWithoutWaits, NoneDiffersAlike, ThinnedAreTwinStarts, TwinCasesAreThinned}
 use Rattle.mw_revise.specs.Laws.{TwinDifferencesAreThinned}
 use Rattle.mw_revise.specs.Revision.{Revision, addresses_of, block_at, store_of}
 use Rattle.mw_revise.specs.TwinCase.{bits_of_cycles, bits_of_segment, cycles_on, end_on, twin_case}
 use Rattle.mw_revise.specs.TwinDiffers.{difference_at, segment_on, shown_at, shown_by, twin_difference}
 use Rattle.mw_revise.specs.TwinStart.{ProgramStart, TwinStart, start_on, start_without_waits}
 use Rattle.mw_revise.specs.TwinStart.{twins_without_waits}
+use Rattle.mw_revise.proofs.Agreeing.{agree_where_none_differs}
 use Rattle.mw_revise.proofs.ProgramRuns.{run, line}
 
 -- ---- one program
@@ -148,6 +149,12 @@ none_differs_alike revision = (
   }) refl refl,
   λ none twins difference differs old_waits new_waits. none twins difference differs,
 )
+
+pub agree_without_waits : AgreeWithoutWaits
+agree_without_waits revision is =
+    let agree = agree_where_none_differs revision is in
+    let alike = none_differs_alike revision in
+    (λ agreement. alike.1 (agree.0 agreement), λ none. agree.1 (alike.0 none))
 
 -- ---- what they decide
 

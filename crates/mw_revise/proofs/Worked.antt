@@ -1,5 +1,5 @@
 -- The law of revisions on two that are worked: one that agrees, and one that doesn't.
-use Rattle.std.proofs.Common.{◌≡◌, ℕ, zero, suc, ◌+◌, ◌<◌, ◌≤◌, ◌^◌, List, [], ◌∷◌, false, ◌||◌, ◌==◌, find}
+use Rattle.std.proofs.Common.{◌≡◌, ℕ, zero, suc, ◌+◌, ◌<◌, ◌≤◌, ◌^◌, List, [], ◌∷◌, Bool, true, false, ◌||◌, ◌==◌, find}
 use Rattle.std.proofs.Common.{Some, None, refl, sym, ap, ◌∙◌, subst, arith, lit<, lit≤}
 use Rattle.std.specs.Prelude.{All, replicate, slice_get, slice_index}
 use Rattle.std.specs.Option.{option_to_list}
@@ -24,8 +24,8 @@ use Rattle.mw_revise.specs.declared.keep.KeepLine.TheVariants.{Equal, Fixed}
 use Rattle.mw_revise.specs.declared.programs.Side.{Side}
 use Rattle.mw_revise.specs.declared.programs.Side.TheVariants.{Old, New}
 use Rattle.mw_revise.specs.Agreement.{Agreement}
-use Rattle.mw_revise.specs.Examples.{nothing, ors, register_block, register_lines, small_revision, small_twins, staying}
-use Rattle.mw_revise.specs.Examples.{state_at}
+use Rattle.mw_revise.specs.Examples.{eights_with, nothing, ors, register_block, register_lines, small_revision, small_twins}
+use Rattle.mw_revise.specs.Examples.{state_at, staying, with_inputs, with_lines}
 use Rattle.mw_revise.specs.Laws.{AreSame, NoTwinDiffers}
 use Rattle.mw_revise.specs.Revision.{AreApart, IsRevision}
 use Rattle.mw_revise.specs.Together.{Holds, StandTogether}
@@ -262,3 +262,42 @@ pub ors_disagree : ¬ Agreement (small_revision ors)
 ors_disagree agreement =
     (agree_where_none_differs (small_revision ors) ors_is).0 agreement (small_twins (8 ∷ 8 ∷ []))
     (differences.Element 0) eights_differ
+
+-- ---- what twin starts share
+
+lines_are : (lines : List Bool) → IsReadyEnvironment small_board (with_lines lines)
+lines_are lines = record { noise = λ i. lit< tt; inputs = λ i. pow_pos small_board.width }
+
+lines_on : (old_lines new_lines : List Bool) (side : Side)
+    → IsReadyEnvironment small_board (start_on side (eights_with (with_lines old_lines) (with_lines new_lines))).env
+lines_on old_lines new_lines Old = lines_are old_lines
+lines_on old_lines new_lines New = lines_are new_lines
+
+-- another line in a later cycle
+pub later_lines : IsTwinStart (small_revision ors)
+    (eights_with (with_lines (true ∷ true ∷ [])) (with_lines (true ∷ false ∷ [])))
+unfolding cycle_on_literals waits_on_literals
+later_lines = record {
+  are = record {
+    block = (0, refl);
+    together = eights_together;
+    environments = lines_on (true ∷ true ∷ []) (true ∷ false ∷ []);
+    inputs = refl;
+  };
+  line = refl;
+}
+
+true_is_false : true ≡ false → ⊥
+true_is_false same = cc
+
+-- another line in the first cycle
+pub first_lines : ¬ IsTwinStart (small_revision ors) (eights_with (with_lines (true ∷ [])) nothing)
+unfolding cycle_on_literals waits_on_literals
+first_lines begins = true_is_false begins.line
+
+same_inputs : (one two : List ℕ) → one ≡ 1 ∷ [] → two ≡ 2 ∷ [] → one ≡ two → ⊥
+same_inputs one two first second same = cc
+
+-- other inputs
+pub other_inputs : ¬ AreTwins (small_revision ors) (eights_with (with_inputs (1 ∷ [])) (with_inputs (2 ∷ [])))
+other_inputs are = same_inputs (1 ∷ []) (2 ∷ []) refl refl are.inputs

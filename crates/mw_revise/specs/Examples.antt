@@ -1,10 +1,11 @@
 -- Worked revisions on the small board, as values on which the definitions compute.
-use Rattle.std.specs.Prelude.{ℕ, List, [], ◌∷◌, true, Option, slice_index}
+use Rattle.std.specs.Prelude.{ℕ, List, [], ◌∷◌, Bool, true, false, Option, slice_index}
 use Rattle.mw_board.specs.Examples.{small_board, small_points}
 use Rattle.mw_board.specs.declared.control.Control.TheVariants.{Fixed as FixedPoint}
 use Rattle.mw_board.specs.declared.parts.BoardParts.{BoardParts}
 use Rattle.mw_cycle.specs.State.{BoardState}
 use Rattle.mw_ready.specs.Environment.{ReadyEnvironment}
+use Rattle.mw_ready.specs.Examples.{waiting}
 use Rattle.mw_rel.specs.CaseExamples.{goes_to}
 use Rattle.mw_rel.specs.Examples.{pair_with}
 use Rattle.mw_term.specs.declared.decided.Decided.{Decided}
@@ -38,6 +39,10 @@ ors = at_four 0x4010C02D9
 abbrev pub pushes : List ℕ
 pushes = at_four 0x4010402C1
 
+-- it takes their or, pushes, and jumps to its boundary
+abbrev pub pushes_and_ors : List ℕ
+pushes_and_ors = at_four 0x4010402D9
+
 -- it adds them, and goes on to words that jump to 0
 abbrev pub leaves : List ℕ
 leaves = at_four 0x3802C1
@@ -45,6 +50,10 @@ leaves = at_four 0x3802C1
 -- PC is 1 in the old program and 5 in the new one, and the registers 0 and 1 are equal
 abbrev pub register_lines : List KeepLine
 register_lines = Fixed 19 1 5 ∷ Equal 0 ∷ Equal 1 ∷ []
+
+-- the same, but for the PC of the new program
+abbrev pub wrong_lines : List KeepLine
+wrong_lines = Fixed 19 1 6 ∷ Equal 0 ∷ []
 
 -- the boundary at 0 and 4, with an empty stack
 abbrev pub block_with : (bound : ℕ) → List KeepLine → Block
@@ -59,13 +68,13 @@ abbrev pub revision_with : BoardParts → (after : List ℕ) → List Block → 
 revision_with board after blocks =
     record { board = board; before = two_words; after = after; keep = record { blocks = blocks } }
 
--- the small board, with one boundary and two cycles at most
+-- a revision of the small board, with one boundary and two cycles at most
 abbrev pub small_revision : (after : List ℕ) → Revision
 small_revision after = revision_with small_board after (register_block 2 ∷ [])
 
--- with another boundary, which the old program meets between its words
-abbrev pub parted_revision : Revision
-parted_revision = revision_with small_board adds
+-- a revision with another boundary, which the old program meets between its words
+abbrev pub parted_revision : BoardParts → (after : List ℕ) → Revision
+parted_revision board after = revision_with board after
     (register_block 2 ∷ record { before = 1; after = 5; bound = 2; sp = 0; lines = [] } ∷ [])
 
 -- the small board that puts out Y in each cycle
@@ -82,9 +91,17 @@ state_at at pc registers =
 abbrev pub nothing : ReadyEnvironment
 nothing = record { line = []; noise = []; wait = []; inputs = [] }
 
--- one whose first line is 1
-abbrev pub requested : ReadyEnvironment
-requested = record nothing { line = true ∷ [] }
+-- one with these lines alone
+abbrev pub with_lines : List Bool → ReadyEnvironment
+with_lines lines = record nothing { line = lines }
+
+-- one with these inputs alone
+abbrev pub with_inputs : List ℕ → ReadyEnvironment
+with_inputs inputs = record nothing { inputs = inputs }
+
+-- one with waits, of whose lines that of clock 2 alone is 1
+abbrev pub waiting_for_line : ReadyEnvironment
+waiting_for_line = record waiting { line = false ∷ false ∷ true ∷ [] }
 
 -- twins at a boundary, with these registers in both and these environments
 abbrev pub twins_with : Block → (registers : List ℕ) → (old_env new_env : ReadyEnvironment) → TwinStart
@@ -98,7 +115,11 @@ twins_with block registers old_env new_env = record {
 abbrev pub small_twins : (registers : List ℕ) → TwinStart
 small_twins registers = twins_with (register_block 2) registers nothing nothing
 
--- what they show with a new program
+-- with 8 in both registers, and these environments
+abbrev pub eights_with : (old_env new_env : ReadyEnvironment) → TwinStart
+eights_with old_env new_env = twins_with (register_block 2) (8 ∷ 8 ∷ []) old_env new_env
+
+-- what the small twins show with a new program
 abbrev pub shown : (after registers : List ℕ) → Option TwinDifference
 shown after registers = twin_difference (small_revision after) (small_twins registers)
 

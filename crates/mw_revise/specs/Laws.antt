@@ -58,6 +58,11 @@ NoTwinDiffersWithoutWaits revision = (twins : TwinStart) (difference : TwinDiffe
 abbrev pub NoneDiffersAlike : Type 0
 NoneDiffersAlike = (revision : Revision) → NoTwinDiffersWithoutWaits revision ↔ NoTwinDiffers revision
 
+-- two programs agree exactly where no twin start without waits differs
+abbrev pub AgreeWithoutWaits : Type 0
+AgreeWithoutWaits = (revision : Revision) → IsRevision revision
+    → Agreement revision ↔ NoTwinDiffersWithoutWaits revision
+
 -- twins have as many cycles on each side, are late there, and decide the same bits as without their waits
 pub record HaveCaseOfThinned (revision : Revision) (twins : TwinStart) : Type 0 where
   pub cycles : (side : Side) → cycles_on side revision twins

@@ -37,7 +37,7 @@ abbrev pub AreApart : Side → List Block → Type 0
 AreApart side blocks = (n : ℕ) (block : Block) → slice_get blocks n ≡ Some block
     → find (λ (other : Block). address_on side other == address_on side block) blocks ≡ Some block
 
--- a board, and boundaries at control addresses of their own in both programs
+-- a board, and boundaries each of which is the one at its control address in both programs
 pub record IsRevision (revision : Revision) : Type 0 where
   pub board : IsBoard revision.board
   pub apart : (side : Side) → AreApart side revision.keep.blocks

@@ -52,8 +52,8 @@ difference_at board reached old_run new_run =
     (option_or (line_difference board reached old_run.state new_run.state)
     (memory_difference old_run.state.memory new_run.state.memory))))
 
--- the first segment of a program, where it keeps its bound; nothing where the bound's number of cycles passes without
--- a boundary
+-- the first segment of a program, where it keeps the bound of the boundary at which both begin; nothing where the
+-- bound's number of cycles passes without a boundary
 abbrev pub segment_on : Side → Revision → TwinStart → Option ReadyRun
 segment_on side revision twins =
     ready_first_segment revision.board (store_of side revision) (start_on side twins).env (start_on side twins).state

@@ -1,22 +1,23 @@
 // Worked revisions, computed on the definitions.
-ghost use Rattle.std.specs.Prelude.{◌≡◌, [], ◌∷◌, ◌++◌, Some, None, true};
+ghost use Rattle.std.specs.Prelude.{◌≡◌, [], ◌∷◌, ◌++◌, Some, None, true, false};
 ghost use Rattle.mw_board.specs.Examples.{small_board};
-ghost use Rattle.mw_ready.specs.Examples.{memory_board, waiting, writing_board};
+ghost use Rattle.mw_ready.specs.Examples.{memory_board, writing_board};
 ghost use Rattle.mw_revise.specs.declared.difference.TwinDifference.TheVariants as differences;
 ghost use Rattle.mw_revise.specs.declared.programs.Side.TheVariants.{Old, New};
 ghost use Rattle.mw_revise.specs.Agreement.{Agreement};
 ghost use Rattle.mw_rel.specs.CaseExamples.{to_one, to_zero};
-ghost use Rattle.mw_revise.specs.Examples.{adds, block_with, decided_with, leaves, nothing, ors, parted_revision};
-ghost use Rattle.mw_revise.specs.Examples.{pushes, reached, reached_as, register_block, requested, revision_with};
-ghost use Rattle.mw_revise.specs.Examples.{shown, small_revision, small_twins, speaking_board, staying, to_five};
-ghost use Rattle.mw_revise.specs.Examples.{to_four, twins_with};
+ghost use Rattle.mw_revise.specs.Examples.{adds, block_with, decided_with, eights_with, leaves, nothing, ors};
+ghost use Rattle.mw_revise.specs.Examples.{parted_revision, pushes, pushes_and_ors, reached, reached_as};
+ghost use Rattle.mw_revise.specs.Examples.{register_block, revision_with, shown, small_revision, small_twins};
+ghost use Rattle.mw_revise.specs.Examples.{speaking_board, staying, to_five, to_four, twins_with, waiting_for_line};
+ghost use Rattle.mw_revise.specs.Examples.{with_inputs, with_lines, wrong_lines};
 ghost use Rattle.mw_revise.specs.TwinCase.{twin_case};
 ghost use Rattle.mw_revise.specs.TwinDiffers.{twin_difference};
-ghost use Rattle.mw_revise.specs.TwinStart.{line_on};
+ghost use Rattle.mw_revise.specs.TwinStart.{AreTwins, IsTwinStart, line_on};
 
 /// A program that adds and jumps in two cycles, and others in its place. One that does it in one cycle shows no
 /// difference, and both have come to the same registers after three segments. With an or in place of the sum the first
-/// register differs where the sum has a carry, and nothing where it has none. A bound of one cycle makes the old program
+/// register differs where the sum has a carry, and no difference shows where it has none. A bound of one cycle makes the old program
 /// late; a new program that never comes back is late; the second of two outputs is missing; a boundary between the
 /// words is met by the old program alone; a push is on one stack alone; and where no line is compared the memories
 /// differ. Waits before the old program's cycles change nothing, and its first line is that of the clock behind them.
@@ -31,16 +32,41 @@ pub fn revisions_are_worked()
     ensures late_new { shown leaves (9 ∷ 8 ∷ []) ≡ Some differences.LateNew }
     ensures event { twin_difference (revision_with speaking_board adds (register_block 2 ∷ []))
         (small_twins (9 ∷ 8 ∷ [])) ≡ Some (differences.Event 1) }
-    ensures boundary { twin_difference parted_revision (small_twins (9 ∷ 8 ∷ [])) ≡ Some differences.Boundary }
+    ensures boundary { twin_difference (parted_revision small_board adds) (small_twins (9 ∷ 8 ∷ [])) ≡ Some differences.Boundary }
     ensures stack_pointer { shown pushes (9 ∷ 8 ∷ []) ≡ Some differences.StackPointer }
     ensures memory { twin_difference (revision_with writing_board ors (block_with 2 [] ∷ []))
         (twins_with (block_with 2 []) (8 ∷ 8 ∷ []) nothing nothing) ≡ Some (differences.Memory 0) }
     ensures waits { twin_difference (revision_with memory_board adds (register_block 2 ∷ []))
-        (twins_with (register_block 2) (9 ∷ 8 ∷ []) waiting requested) ≡ None }
+        (twins_with (register_block 2) (9 ∷ 8 ∷ []) waiting_for_line (with_lines (true ∷ []))) ≡ None }
     ensures old_line { line_on Old (revision_with memory_board adds (register_block 2 ∷ []))
-        (twins_with (register_block 2) (9 ∷ 8 ∷ []) waiting requested) 0 ≡ true }
+        (twins_with (register_block 2) (9 ∷ 8 ∷ []) waiting_for_line (with_lines (true ∷ []))) 0 ≡ true }
     ensures new_line { line_on New (revision_with memory_board adds (register_block 2 ∷ []))
-        (twins_with (register_block 2) (9 ∷ 8 ∷ []) waiting requested) 0 ≡ true }
+        (twins_with (register_block 2) (9 ∷ 8 ∷ []) waiting_for_line (with_lines (true ∷ []))) 0 ≡ true }
+{}
+
+/// Which difference is told where there are several: a late old segment before a late new one, an event before a boundary
+/// that isn't the same, such a boundary before a stack pointer, a stack pointer before a line, a line before the memory,
+/// and of lines the first in the file.
+pub fn differences_come_in_order()
+    ensures both_late { twin_difference (revision_with small_board leaves (register_block 1 ∷ []))
+        (twins_with (register_block 1) (9 ∷ 8 ∷ []) nothing nothing) ≡ Some differences.LateOld }
+    ensures event_first { twin_difference (parted_revision speaking_board ors) (small_twins (8 ∷ 8 ∷ []))
+        ≡ Some (differences.Event 0) }
+    ensures boundary_first { twin_difference (parted_revision small_board pushes) (small_twins (9 ∷ 8 ∷ []))
+        ≡ Some differences.Boundary }
+    ensures pointer_first { shown pushes_and_ors (8 ∷ 8 ∷ []) ≡ Some differences.StackPointer }
+    ensures line_first { twin_difference (revision_with writing_board ors (register_block 2 ∷ []))
+        (small_twins (8 ∷ 8 ∷ [])) ≡ Some (differences.Element 0) }
+    ensures first_line { twin_difference (revision_with small_board ors (block_with 2 wrong_lines ∷ []))
+        (twins_with (block_with 2 wrong_lines) (8 ∷ 8 ∷ []) nothing nothing) ≡ Some (differences.Element 19) }
+{}
+
+/// What twin starts share: the line in the first cycle, but not those in later ones; and the inputs.
+pub fn twin_starts_are_worked()
+    ensures later_lines { IsTwinStart (small_revision ors)
+        (eights_with (with_lines (true ∷ true ∷ [])) (with_lines (true ∷ false ∷ []))) }
+    ensures first_lines { ¬ IsTwinStart (small_revision ors) (eights_with (with_lines (true ∷ [])) nothing) }
+    ensures inputs { ¬ AreTwins (small_revision ors) (eights_with (with_inputs (1 ∷ [])) (with_inputs (2 ∷ []))) }
 {}
 
 /// What twin starts decide: the two cycles of the old program and then the one of the new program, also with waits;
@@ -52,7 +78,7 @@ pub fn twin_cases_are_worked()
         (twins_with (register_block 1) (9 ∷ 8 ∷ []) nothing nothing) ≡ to_one }
     ensures late_new { decided_with leaves (9 ∷ 8 ∷ []) ≡ to_one ++ (to_zero ++ (to_five ++ to_zero)) }
     ensures waits { twin_case (revision_with memory_board adds (register_block 2 ∷ []))
-        (twins_with (register_block 2) (9 ∷ 8 ∷ []) waiting requested) ≡ to_one ++ (to_zero ++ to_four) }
+        (twins_with (register_block 2) (9 ∷ 8 ∷ []) waiting_for_line (with_lines (true ∷ []))) ≡ to_one ++ (to_zero ++ to_four) }
 {}
 
 /// The law of revisions, used in both directions: two programs that only jump to their boundary agree, over all runs,

@@ -1,6 +1,6 @@
 // Laws of twin starts, and of when two programs agree.
-ghost use Rattle.mw_revise.specs.Laws.{AgreeWhereNoneDiffers, ThinnedAreTwinStarts, NoneDiffersAlike, SameShowNothing};
-ghost use Rattle.mw_revise.specs.Laws.{TwinCasesAreThinned, TwinDifferencesAreThinned};
+ghost use Rattle.mw_revise.specs.Laws.{AgreeWhereNoneDiffers, AgreeWithoutWaits, NoneDiffersAlike, SameShowNothing};
+ghost use Rattle.mw_revise.specs.Laws.{ThinnedAreTwinStarts, TwinCasesAreThinned, TwinDifferencesAreThinned};
 
 /// The law of twin starts: one shows no difference exactly where both first segments keep the bound, end at the same
 /// boundary with states that stand together there, and have the same events.
@@ -19,15 +19,20 @@ pub fn thinned_are_twin_starts()
     ensures { ThinnedAreTwinStarts }
 {}
 
-/// The law of what twins show: the difference, if any, that they show without their waits.
+/// The law of what twins show: they show the difference, if any, that they show without their waits.
 pub fn twin_differences_are_thinned()
     ensures { TwinDifferencesAreThinned }
 {}
 
-/// The law of differences with waits: no twin start differs exactly where none does that has no waits. So whether two
-/// programs agree can be decided over environments without waits.
+/// The law of differences with waits: no twin start differs exactly where none without waits does.
 pub fn none_differs_alike()
     ensures { NoneDiffersAlike }
+{}
+
+/// The law of revisions with waits: two programs agree, over all environments, exactly where no twin start without waits
+/// differs. So whether they agree can be decided over environments without waits.
+pub fn agree_without_waits()
+    ensures { AgreeWithoutWaits }
 {}
 
 /// The law of cases with waits: twins have as many cycles on each side, are late there, and decide the same bits as

@@ -16,11 +16,14 @@ mod site;
 mod twin;
 
 pub use difference::TwinDifference;
-pub use examples::{agreement_is_worked, revisions_are_worked, twin_cases_are_worked};
+pub use examples::{
+    agreement_is_worked, differences_come_in_order, revisions_are_worked, twin_cases_are_worked,
+    twin_starts_are_worked,
+};
 pub use keep::{Block, Keep, KeepLine};
 pub use laws::{
-    agree_where_none_differs, none_differs_alike, same_show_nothing, thinned_are_twin_starts,
-    twin_cases_are_thinned, twin_differences_are_thinned,
+    agree_where_none_differs, agree_without_waits, none_differs_alike, same_show_nothing,
+    thinned_are_twin_starts, twin_cases_are_thinned, twin_differences_are_thinned,
 };
 pub use programs::Side;
 pub use reading::read_keep;
