@@ -23,30 +23,32 @@ fn holds(alloc: Global, terms: &Terms, term: Term) -> Result<bool, NoMemory> {
     }
     let mut dds = Diagrams::new(alloc)?;
     let mut blast = Blast::new(alloc);
-    let bits = match blast.bits(alloc, terms, &mut dds, term, 1_000_000) {
-        Ok(bits) => bits,
-        Err(_) => return Ok(false),
-    };
+    let bits = blast.bits(alloc, terms, &mut dds, term, 1_000_000);
     let always = dds.constant(true);
-    for bit in &bits {
-        if *bit != always {
-            return Ok(false);
-        }
-    }
-    Ok(true)
+    drop(blast);
+    drop(dds);
+    Ok(match bits {
+        Ok(bits) => bits.iter().all(|bit| *bit == always),
+        Err(_) => false,
+    })
 }
 
-/// A hundred thousand complements, one of the other, are the word itself.
-#[test]
-fn long_chain(rt: HostRuntime) -> Result<(), Fail> {
-    let alloc = rt.alloc();
-    let mut terms = Terms::new(alloc, &[])?;
-    let x = build(alloc, &mut terms, Op::Var(1, 2))?;
+/// Whether a hundred thousand complements, one of the other, are the word itself.
+fn is_word_itself(alloc: Global, terms: &mut Terms) -> Result<bool, NoMemory> {
+    let x = build(alloc, terms, Op::Var(1, 2))?;
     let mut last = x;
     for _ in 0..100_000 {
-        last = build(alloc, &mut terms, Op::Not(last))?;
+        last = build(alloc, terms, Op::Not(last))?;
     }
-    let same = build(alloc, &mut terms, Op::Eq(last, x))?;
-    assert!(rt; holds(alloc, &terms, same)?);
+    let same = build(alloc, terms, Op::Eq(last, x))?;
+    holds(alloc, terms, same)
+}
+
+#[test]
+fn long_chain(rt: HostRuntime) -> Result<(), Fail> {
+    let mut terms = Terms::new(rt.alloc(), &[])?;
+    let same = is_word_itself(rt.alloc(), &mut terms);
+    drop(terms);
+    assert!(rt; same?);
     Ok(())
 }

@@ -57,11 +57,16 @@ fn padded_numbers(rt: HostRuntime) -> Result<(), Fail> {
 }
 
 #[test]
-fn names_and_lists(rt: HostRuntime) -> Result<(), Fail> {
+fn names(rt: HostRuntime) -> Result<(), Fail> {
     let name = Name::new(rt.alloc(), b"link").ok().ok_or("memory")?;
     assert_eq!(rt; name.as_slice(), b"link".as_slice());
     let bytes = Vec::from_slice(rt.alloc(), b"carry")?;
     assert_eq!(rt; Name::from_vec(bytes).as_slice(), b"carry".as_slice());
+    Ok(())
+}
+
+#[test]
+fn lists(rt: HostRuntime) -> Result<(), Fail> {
     let list = Items::from_vec(Vec::from_slice(rt.alloc(), &[3, 1, 2])?);
     assert_eq!(rt; list.as_slice(), [3, 1, 2].as_slice());
     assert_eq!(rt; list.into_vec().as_slice(), [3, 1, 2].as_slice());

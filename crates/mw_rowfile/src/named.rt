@@ -137,10 +137,14 @@ fn set_stack(seq: &mut Seq, text: &str) -> Result<(), Fault> {
 /// The sequencer of `pc=`, `r=`, `sp=` and `stack=`, whose 5 or 9 words stand with commas between, the oldest first.
 pub fn sequencer_of(words: &[String]) -> Result<Seq, Fault> {
     let text = text_of(words, "stack")?;
-    let mut seq = Seq::cleared(depth_of(text)?);
-    seq.pc = address_of(words, "pc")?;
-    seq.r = address_of(words, "r")?;
-    seq.sp = pointer_of(words, seq.depth())?;
+    let depth = depth_of(text)?;
+    let pc = address_of(words, "pc")?;
+    let r = address_of(words, "r")?;
+    let sp = pointer_of(words, depth)?;
+    let mut seq = Seq::cleared(depth);
+    seq.pc = pc;
+    seq.r = r;
+    seq.sp = sp;
     set_stack(&mut seq, text)?;
     Ok(seq)
 }

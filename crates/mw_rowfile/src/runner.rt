@@ -226,6 +226,21 @@ fn run_file<R: Files + Print + AllocGlobal, W: Worker>(
     Ok((count, otherwise))
 }
 
+/// Runs the rows of a file, and prints its fault where it isn't right.
+fn run_named<R: Files + Print + AllocGlobal, W: Worker>(
+    rt: &R,
+    worker: &W,
+    name: &str,
+) -> Result<(u64, u64), Fault> {
+    match run_file(rt, worker, name) {
+        Ok(counts) => Ok(counts),
+        Err(fault) => {
+            println!(rt; "{name}: {fault}")?;
+            Err(fault)
+        }
+    }
+}
+
 /// Runs the rows of the files that the arguments name, and answers how many of them end otherwise.
 fn run_files<R: Env + Files + Print + AllocGlobal, W: Worker>(
     rt: &R,
@@ -234,16 +249,9 @@ fn run_files<R: Env + Files + Print + AllocGlobal, W: Worker>(
     let mut rows = 0u64;
     let mut otherwise = 0u64;
     for name in env::args(rt)?.skip(1) {
-        match run_file(rt, worker, &name) {
-            Ok((all, differ)) => {
-                rows = rows.saturating_add(all);
-                otherwise = otherwise.saturating_add(differ);
-            }
-            Err(fault) => {
-                println!(rt; "{name}: {fault}")?;
-                return Err(fault);
-            }
-        }
+        let (all, differ) = run_named(rt, worker, &name)?;
+        rows = rows.saturating_add(all);
+        otherwise = otherwise.saturating_add(differ);
     }
     println!(rt; "{rows} rows, {otherwise} end otherwise")?;
     Ok(otherwise)
