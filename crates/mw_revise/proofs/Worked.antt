@@ -24,8 +24,8 @@ use Rattle.mw_revise.specs.declared.keep.KeepLine.TheVariants.{Equal, Fixed}
 use Rattle.mw_revise.specs.declared.programs.Side.{Side}
 use Rattle.mw_revise.specs.declared.programs.Side.TheVariants.{Old, New}
 use Rattle.mw_revise.specs.Agreement.{Agreement}
-use Rattle.mw_revise.specs.Examples.{eights_with, nothing, ors, register_block, register_lines, small_revision, small_twins}
-use Rattle.mw_revise.specs.Examples.{state_at, staying, with_inputs, with_lines}
+use Rattle.mw_revise.specs.Examples.{eights_with, nothing, ors, register_block, register_lines, small_revision}
+use Rattle.mw_revise.specs.Examples.{small_twins, state_at, staying, with_inputs, with_lines}
 use Rattle.mw_revise.specs.Laws.{AreSame, NoTwinDiffers}
 use Rattle.mw_revise.specs.Revision.{AreApart, IsRevision}
 use Rattle.mw_revise.specs.Together.{Holds, StandTogether}
@@ -42,7 +42,8 @@ small_is_board : IsBoard small_board
 unfolding waits_on_literals rules_on_literals
 small_is_board = is_board small_board refl
 
-only_block : (bound n : ℕ) (block : Block) → slice_get (register_block bound ∷ []) n ≡ Some block → register_block bound ≡ block
+only_block : (bound n : ℕ) (block : Block) → slice_get (register_block bound ∷ []) n ≡ Some block
+    → register_block bound ≡ block
 only_block bound zero block at = cc
 only_block bound (suc n) block at = cc
 

@@ -2,7 +2,8 @@
 ghost use Rattle.std.specs.Prelude.{◌≡◌, ◌<◌, IfOk, OnOk, length};
 ghost use Rattle.mw_base.specs.Reading.{Gives};
 ghost use Rattle.mw_board.specs.Depth.{depth_of};
-ghost use Rattle.mw_revise.specs.Blocks.{begun_block, with_stack_pointer, room, with_line, with_equal, with_fixed, closed_block};
+ghost use Rattle.mw_revise.specs.Blocks.{begun_block, with_stack_pointer, room, with_line, with_equal, with_fixed};
+ghost use Rattle.mw_revise.specs.Blocks.{closed_block};
 ghost use Rattle.mw_revise.specs.Kept.{IsLine, IsBlock, IsOpen};
 
 use crate::beginning::{Beginning, bounded};

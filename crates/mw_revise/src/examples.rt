@@ -17,10 +17,11 @@ ghost use Rattle.mw_revise.specs.TwinStart.{AreTwins, IsTwinStart, line_on};
 
 /// A program that adds and jumps in two cycles, and others in its place. One that does it in one cycle shows no
 /// difference, and both have come to the same registers after three segments. With an or in place of the sum the first
-/// register differs where the sum has a carry, and no difference shows where it has none. A bound of one cycle makes the old program
-/// late; a new program that never comes back is late; the second of two outputs is missing; a boundary between the
-/// words is met by the old program alone; a push is on one stack alone; and where no line is compared the memories
-/// differ. Waits before the old program's cycles change nothing, and its first line is that of the clock behind them.
+/// register differs where the sum has a carry, and no difference shows where it has none. A bound of one cycle makes
+/// the old program late; a new program that never comes back is late; the second of two outputs is missing; a boundary
+/// between the words is met by the old program alone; a push is on one stack alone; and where no line is compared the
+/// memories differ. Waits before the old program's cycles change nothing, and its first line is that of the clock
+/// behind them.
 pub fn revisions_are_worked()
     ensures sums { shown adds (9 ∷ 8 ∷ []) ≡ None }
     ensures old_register { reached Old adds (9 ∷ 8 ∷ []) 6 ≡ reached_as 0 1 8 }
@@ -32,7 +33,8 @@ pub fn revisions_are_worked()
     ensures late_new { shown leaves (9 ∷ 8 ∷ []) ≡ Some differences.LateNew }
     ensures event { twin_difference (revision_with speaking_board adds (register_block 2 ∷ []))
         (small_twins (9 ∷ 8 ∷ [])) ≡ Some (differences.Event 1) }
-    ensures boundary { twin_difference (parted_revision small_board adds) (small_twins (9 ∷ 8 ∷ [])) ≡ Some differences.Boundary }
+    ensures boundary { twin_difference (parted_revision small_board adds) (small_twins (9 ∷ 8 ∷ []))
+        ≡ Some differences.Boundary }
     ensures stack_pointer { shown pushes (9 ∷ 8 ∷ []) ≡ Some differences.StackPointer }
     ensures memory { twin_difference (revision_with writing_board ors (block_with 2 [] ∷ []))
         (twins_with (block_with 2 []) (8 ∷ 8 ∷ []) nothing nothing) ≡ Some (differences.Memory 0) }
@@ -44,9 +46,9 @@ pub fn revisions_are_worked()
         (twins_with (register_block 2) (9 ∷ 8 ∷ []) waiting_for_line (with_lines (true ∷ []))) 0 ≡ true }
 {}
 
-/// Which difference is told where there are several: a late old segment before a late new one, an event before a boundary
-/// that isn't the same, such a boundary before a stack pointer, a stack pointer before a line, a line before the memory,
-/// and of lines the first in the file.
+/// Which difference is told where there are several: a late old segment before a late new one, an event before a
+/// boundary that isn't the same, such a boundary before a stack pointer, a stack pointer before a line, a line before
+/// the memory, and of lines the first in the file.
 pub fn differences_come_in_order()
     ensures both_late { twin_difference (revision_with small_board leaves (register_block 1 ∷ []))
         (twins_with (register_block 1) (9 ∷ 8 ∷ []) nothing nothing) ≡ Some differences.LateOld }
@@ -70,15 +72,16 @@ pub fn twin_starts_are_worked()
 {}
 
 /// What twin starts decide: the two cycles of the old program and then the one of the new program, also with waits;
-/// where the old segment is late, the cycles of its bound alone; and where the new one is, those of its bound behind the
-/// old ones.
+/// where the old segment is late, the cycles of its bound alone; and where the new one is, those of its bound behind
+/// the old ones.
 pub fn twin_cases_are_worked()
     ensures both { decided_with adds (9 ∷ 8 ∷ []) ≡ to_one ++ (to_zero ++ to_four) }
     ensures late_old { twin_case (revision_with small_board adds (register_block 1 ∷ []))
         (twins_with (register_block 1) (9 ∷ 8 ∷ []) nothing nothing) ≡ to_one }
     ensures late_new { decided_with leaves (9 ∷ 8 ∷ []) ≡ to_one ++ (to_zero ++ (to_five ++ to_zero)) }
     ensures waits { twin_case (revision_with memory_board adds (register_block 2 ∷ []))
-        (twins_with (register_block 2) (9 ∷ 8 ∷ []) waiting_for_line (with_lines (true ∷ []))) ≡ to_one ++ (to_zero ++ to_four) }
+        (twins_with (register_block 2) (9 ∷ 8 ∷ []) waiting_for_line (with_lines (true ∷ [])))
+        ≡ to_one ++ (to_zero ++ to_four) }
 {}
 
 /// The law of revisions, used in both directions: two programs that only jump to their boundary agree, over all runs,

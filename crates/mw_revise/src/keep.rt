@@ -9,8 +9,8 @@ use mw_base::Items;
 pub enum KeepLine {
     /// The element with this number has the same value in both.
     Equal(u32),
-    /// The element with this number has the first of these values in the state of the old program, and the second one in
-    /// that of the new program.
+    /// The element with this number has the first of these values in the state of the old program, and the second one
+    /// in that of the new program.
     Fixed(u32, u32, u32),
 }
 

@@ -29,8 +29,8 @@ pub fn none_differs_alike()
     ensures { NoneDiffersAlike }
 {}
 
-/// The law of revisions with waits: two programs agree, over all environments, exactly where no twin start without waits
-/// differs. So whether they agree can be decided over environments without waits.
+/// The law of revisions with waits: two programs agree, over all environments, exactly where no twin start without
+/// waits differs. So whether they agree can be decided over environments without waits.
 pub fn agree_without_waits()
     ensures { AgreeWithoutWaits }
 {}

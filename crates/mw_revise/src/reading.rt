@@ -193,9 +193,10 @@ fn keep_of(alloc: Global, programs: &Programs, text: &[u8]) -> Result<Keep, Refu
 /// What a text says of two programs on one board.
 ///
 /// A text is of blocks. A block begins with a line `boundary PLACE BOUND` and ends with a line `end`; PLACE is a label
-/// of both programs, or one address for both, and BOUND is 1 to 500. Between them stand a line `sp N`, once; lines `keep
-/// ELEMENT`; and lines `fixed ELEMENT OLD NEW`. Elements are those of the board, with `b.` before their names, and not
-/// its stack pointer. Each boundary has an address of its own in each program. The text has fewer than 2^32 bytes.
+/// of both programs, or one address for both, and BOUND is 1 to 500. Between them stand a line `sp N`, once; lines
+/// `keep ELEMENT`; and lines `fixed ELEMENT OLD NEW`. Elements are those of the board, with `b.` before their names,
+/// and not its stack pointer. Each boundary has an address of its own in each program. The text has fewer than 2^32
+/// bytes.
 ///
 /// # Errors
 ///

@@ -16,7 +16,8 @@ use std::marker::Model;
 /// A twin start from which an old program and a new one differ, as it is printed.
 #[derive(Debug, Drop)]
 pub struct Twin {
-    /// The number of the boundary, from 0, in the order of the KEEP text. It isn't printed: the control addresses say it.
+    /// The number of the boundary, from 0, in the order of the KEEP text. It isn't printed: the control addresses say
+    /// it.
     pub boundary: usize,
     /// Where the old program begins.
     pub before: Start,
@@ -101,10 +102,10 @@ fn append_side(
 
 /// The text of a twin start: the line `difference D`; behind the line `old` an environment in which the old program
 /// begins, and behind the line `new` one in which the new program begins. D is `late old`, `late new`, `event N`,
-/// `boundary`, `element b.NAME` or `memory ADDRESS`, with N in decimal digits and ADDRESS in hexadecimal; an element that
-/// the board doesn't have has no name. An environment has the control address, and then, of what isn't 0,
-/// `set` for the elements of the board, by number, and for the stack pointer, `mem` for each word of the memory, by
-/// address, and the lists without the zeros at their ends, sixteen values to a line. Both states fit the board.
+/// `boundary`, `element b.NAME` or `memory ADDRESS`, with N in decimal digits and ADDRESS in hexadecimal; an element
+/// that the board doesn't have has no name. An environment has the control address, and then, of what isn't 0, `set`
+/// for the elements of the board, by number, and for the stack pointer, `mem` for each word of the memory, by address,
+/// and the lists without the zeros at their ends, sixteen values to a line. Both states fit the board.
 ///
 /// # Errors
 ///
