@@ -7,9 +7,9 @@ import random
 from itertools import product
 
 from model.board import settings_of
-from model.comparison import LISTS, board_state, completed
-from model.cycle import cycle, decided_bits
-from model.description import Described, Outside
+from model.comparison import LISTS, board_state, completed, first_step, run_of
+from model.cycle import decided_bits
+from model.description import Outside
 
 
 class Choice(Outside):
@@ -45,18 +45,16 @@ class Case:
     def __init__(self, job, start):
         values = completed(job, start)
         _, bound, sp, _ = job.blocks[start.boundary]
-        at, state, taken = start.boundary, board_state(job, values, sp, start.words), 0
+        before = board_state(job, values, sp, start.words)
+        run = run_of(job, start, before)
         self.cycles, self.late, branches = [], True, []
-        while self.late and len(self.cycles) < bound:
-            number = len(self.cycles)
-            given = start.entry("noise", number), start.entry("line", number), start.entry("inputs", taken)
-            following, after, nets = cycle(job.board, job.store, at, state, *given)
-            nets = settings_of(nets)
+        while self.late and run.cycles < bound:
+            state = run.state
+            nets = settings_of(run.make_cycle())
             self.cycles.append(decided_bits(job.board, int(nets["word"], 16), state, nets))
-            taken += nets["event"].startswith("taken")
-            at, state, self.late = following, after, following not in job.blocks
+            self.late = run.at not in job.blocks
         if not self.late:
-            branches = Described(job.machine, values, dict(start.words), start).bits
+            branches = first_step(job, start, values, start, before).bits
         self.branches = [("branch", value) for value in branches]
 
     def bits(self):

@@ -1,22 +1,23 @@
 """A board and a described machine from one start: texts of starts, the relation of two states, and what differs first.
 
-Starts, the relation and the comparison are stated anew as the manual has them. A board's cycle is that of cycle.py, and a
+Starts, the relation and the comparison are stated anew as the manual has them. A board's run is that of run.py, and a
 described step that of description.py.
 """
 import tomllib
 
 from model.board import Board
-from model.cycle import State, cycle
+from model.cycle import State
 from model.description import Described, Grammar, Machine, Outside
 from model.expression import Over, valued
 from model.lines import Refused, lines_of
 from model.microprogram import Microprogram
 from model.relation import Relation, elements
+from model.run import Run
 
 MOST_ENTRIES = 65536
 
 # The lists of an environment, each with the bound of its values.
-LISTS = {"inputs": None, "line": 2, "noise": 2**14}
+LISTS = {"inputs": None, "line": 2, "noise": 2**14, "wait": 2}
 
 
 class Start(Grammar, Outside):
@@ -155,21 +156,19 @@ def board_state(job, values, sp, memory):
                  {number: of(f"r{number}") for number in range(16)}, dict(memory))
 
 
-def segment(job, start, state):
-    """The board at the next boundary and its events, from a state and with what a start or an environment gives from
-    outside; no board where it is late."""
-    at, events, taken = start.boundary, [], 0
-    for number in range(job.blocks[start.boundary][1]):
-        given = start.entry("noise", number), start.entry("line", number), start.entry("inputs", taken)
-        at, state, nets = cycle(job.board, job.store, at, state, *given)
-        event = nets.rpartition("event=")[2]
-        if event != "none":
-            kind, _, value = event.partition(":")
-            events.append((kind, int(value, 16)))
-            taken += kind == "taken"
-        if at in job.blocks:
-            return at, state, events
-    return at, None, events
+def run_of(job, outside, state):
+    """The run of a board from a state at a boundary, with what a start or an environment gives from outside."""
+    return Run(job.board, job.store, outside, outside.boundary, state)
+
+
+def segment(job, outside, state):
+    """The board at the next boundary and its events; no board where it is late. Waits aren't counted."""
+    run = run_of(job, outside, state)
+    while run.cycles < job.blocks[outside.boundary][1]:
+        run.make_cycle()
+        if run.at in job.blocks:
+            return run.at, run.state, run.events
+    return run.at, None, run.events
 
 
 def completed(job, start):
@@ -178,17 +177,24 @@ def completed(job, start):
     return start.values | {name: valued(tree, sees)[1] for name, tree in job.blocks[start.boundary][3]}
 
 
+def first_step(job, start, values, outside, before):
+    """The step of the machine from a start that gives these elements: its request is the line of the clock that makes
+    the first cycle of the board's run from a state."""
+    return Described(job.machine, values, dict(start.words), start, run_of(job, outside, before).line())
+
+
 def difference(job, start, environment=None):
     """The first difference that a start shows; none where there is none. Where an environment is given the board runs in
     it."""
-    values = completed(job, start)
+    values, outside = completed(job, start), environment or start
     if environment:
-        at, board, events = segment(job, environment, environment.state(job))
+        before = environment.state(job)
     else:
-        at, board, events = segment(job, start, board_state(job, values, job.blocks[start.boundary][2], start.words))
+        before = board_state(job, values, job.blocks[start.boundary][2], start.words)
+    at, board, events = segment(job, outside, before)
     if board is None:
         return "late"
-    described = Described(job.machine, values, dict(start.words), start)
+    described = first_step(job, start, values, outside, before)
     for number in range(max(len(events), len(described.events))):
         if events[number:number + 1] != described.events[number:number + 1]:
             return f"event {number}"

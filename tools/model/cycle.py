@@ -48,9 +48,14 @@ class State(Sequencer):
         return [*registers, self.q, self.mar, self.ir, *flips, self.pc, self.r, *self.stack]
 
 
+def word_at(board, store, at):
+    """The microword at an address."""
+    return store[at] if at < len(store) else board.fill
+
+
 def cycle(board, store, at, state, noise, line, offered):
     """The next address, the state after a cycle, and the text of its nets."""
-    word = store[at] if at < len(store) else board.fill
+    word = word_at(board, store, at)
     top = board.width - 1
     bits = {"zero": 0, "one": 1, "q_low": state.q & 1, "q_high": state.q >> top, "line": line,
             "full": int(state.sp == board.depth)}

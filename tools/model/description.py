@@ -208,12 +208,12 @@ class Outside:
 class Described:
     """A step of a machine, from values of its registers by names such as `m.X`."""
 
-    def __init__(self, machine, registers, memory, outside):
+    def __init__(self, machine, registers, memory, outside, request):
         self.outside, self.events, self.taken, self.bits = outside, [], 0, []
         self.over = Over([])
         self.over.elements = {name: (width, registers.get(f"m.{name}", 0)) for name, width in machine.elements["register"]}
         self.over.elements |= {name: (width, 0) for name, width in machine.elements["temp"]}
-        self.over.elements["request"] = (1, outside.entry("line", 0))
+        self.over.elements["request"] = (1, request)
         self.over.memory, self.over.address, self.over.word = memory, machine.over.address, machine.over.word
         self.do(machine.steps)
 

@@ -8,7 +8,7 @@ from files import counted_lines, text_lines
 from model.am2901 import DESTINATIONS, FUNCTIONS, SOURCES
 from model.am2910 import INSTRUCTIONS as CODES
 from model.board import Board
-from model.comparison import report, status
+from model.comparison import LISTS, report, status
 from model.cycle import State, cycle
 from small import SMALL_BOARD, SMALL_MACHINE, SMALL_MICRO, SMALL_RELATION
 
@@ -442,7 +442,7 @@ LINES = [
     # the grammar
     "set", "set b", "set b.", "set b.r1", "set b.r1 = 1", "set b.r1 1 1", "set b.r1 m.A", "set b.r1 1#8", "set b.r1 -1", "set r1 1",
     "set b r1 1", "set b..r1 1", "set b.1 1", "set 1.r1 1", "set .r1 1", "set b.r1 x", "set mem 1 1", "Set b.r1 1", "sets b.r1 1",
-    "set b.set 1", "mem.r1 1", "b.r1 1", "r1", "3", "+", "=", ":", "end", "at HERE", "sp 1", "wait 1", "no", "difference late",
+    "set b.set 1", "mem.r1 1", "b.r1 1", "r1", "3", "+", "=", ":", "end", "at HERE", "sp 1", "waits 1", "no", "difference late",
     "boundary HERE", "boundary THERE", "set b.r1 1 ; @ and more", "set b.r1 1@", "set b.r1 1a", "set b.r1 0x", "set b.r1 1\\",
     # memory
     "mem 0 1", "mem 15 255", "mem 16 0", "mem 0 256", "mem 16 256", "mem 14 1 2", "mem 14 1 2 3", "mem 14 1 2 256", "mem 15 256 1",
@@ -454,7 +454,8 @@ LINES = [
     "inputs 0", "inputs 255", "inputs 256", "inputs 1 256 257", "inputs", "inputs x", "inputs 1 x", "inputs 1, 2", "inputs = 1",
     "inputs 1/inputs 2 3", "inputs 1/inputs 256", "input 1", "line 0 1 0", "line 2", "line 0 1 2", "line", "line x", "line 1/line 2",
     "lines 1", "noise 0x3FFF", "noise 0x4000", "noise 1 2 3/noise 16384", "noise", "noise -1", "noise 0 0 0", "line 1 noise 1",
-    "inputs 0/line 0/noise 0/inputs 0", "inputs 340282366920938463463374607431768211456",
+    "wait 0 1 0", "wait 2", "wait 0 1 2", "wait", "wait x", "wait 1/wait 2", "inputs 0/line 0/noise 0/wait 0/inputs 0",
+    "inputs 340282366920938463463374607431768211456",
     # pairs of faults
     "set b.r1 1 1/@", "@/set b.r1 1 1", "set b.Z 0/set b.r0 0", "set b.r0 0/set b.Z 0", "mem 16 0/set b.r1 256", "set b.r1 256/mem 16 0",
     "set b.r0 0/set b.r1", "set b.r1/set b.r0 0", "inputs 256/line 2", "line 2/inputs 256", "set b.Z 256", "set b.r0 1 1", "set b.r1 0x1G/@",
@@ -468,7 +469,7 @@ HEADS = [
     "boundary here", "boundary FIVE", "boundary GO", "boundary br", "boundary " + "n" * 65, "boundary",
     "boundary HERE HERE", "boundary HERE 1", "boundary = HERE", "boundary HERE:", "boundary .", "boundary b.r1", "Boundary HERE",
     "boundary 340282366920938463463374607431768211455", "boundary 340282366920938463463374607431768211456", "boundary 5x",
-    "at HERE", "set b.r1 1", "mem 0 1", "inputs 1", "line 1", "noise 1", "HERE", "5", "=", "boundary HERE;boundary",
+    "at HERE", "set b.r1 1", "mem 0 1", "inputs 1", "line 1", "noise 1", "wait 1", "HERE", "5", "=", "boundary HERE;boundary",
     "no/boundary HERE", "difference late/boundary HERE", "no/difference late/boundary HERE", "no/difference element b.r0/boundary HERE",
     "no/difference memory 0x3/boundary HERE", "difference/boundary HERE", "difference ) + := 5 x.y/boundary HERE",
     "no/no/boundary HERE", "difference late/no/boundary HERE", "difference late/difference late/boundary HERE", "no x/boundary HERE",
@@ -489,8 +490,8 @@ TEXTS = [
      "boundary HERE\nnoise 1\nmem 1 2\nline 1\nset m.A 1\ninputs 2\nset b.r1 1\nmem 0 5\nset b.q 3\n"),
 ]
 FULL = "1 " * 63 + "1\n"
-LIMITS = [(f"{name} of 65,536 entries", 1024 * f"{name} {FULL}") for name in ("inputs", "line", "noise")]
-LIMITS += [(f"{name} of 65,537 entries", 1024 * f"{name} {FULL}" + f"{name} 1\n") for name in ("inputs", "line", "noise")]
+LIMITS = [(f"{name} of 65,536 entries", 1024 * f"{name} {FULL}") for name in LISTS]
+LIMITS += [(f"{name} of 65,537 entries", 1024 * f"{name} {FULL}" + f"{name} 1\n") for name in LISTS]
 LIMITS += [("an entry too many that is too wide", 1024 * f"line {FULL}" + "line 2\n"), ("an entry too wide before one too many",
            1023 * f"noise {FULL}" + "noise 16384 " + FULL), ("zeros too many", 1024 * ("inputs " + "0 " * 63 + "0\n") + "inputs 0\n")]
 WHOLE = "no\ndifference element b.r1\nboundary HERE\nset m.A 0xF\nmem 3 7\nline 1\n"

@@ -21,8 +21,7 @@ from cases import MOST_NODES, MOST_PATHS, given_lines
 from difference_jobs import COUNTERS, FEW, JOBS, TIGHT
 from files import file_lines, row_lines
 from model.cases import Case, Choice, decided, random_start, starts
-from model.comparison import LISTS, Start, board_state, completed, difference, segment
-from model.description import Described
+from model.comparison import LISTS, Start, board_state, completed, difference, first_step, segment
 from model.environments import list_lines, memory_lines
 from model.words import IN_LISTS, CaseWords, Values
 from nodes import Boundary, has_twin
@@ -94,7 +93,7 @@ class Ends:
         self.all, self.addresses = True, []
         if board is None:
             return
-        described = Described(job.machine, values, dict(start.words), start)
+        described = first_step(job, start, values, start, state)
         kinds = [[kind for kind, _ in each] for each in (events, described.events)]
         self.all = kinds[0] != kinds[1] or board.sp != job.blocks[self.at][2]
         other = described.over.memory

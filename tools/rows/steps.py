@@ -43,7 +43,7 @@ class Touched(dict):
 def stepped(machine, values, request=0, inputs=(), words=(), step=Described):
     """A step, with the memory that it leaves."""
     registers = {f"m.{name}": value for name, value in values.items()}
-    return step(machine, registers, Touched(words), Outside({"line": [request], "inputs": inputs}))
+    return step(machine, registers, Touched(words), Outside({"inputs": inputs}), request)
 
 
 def named(machine, memory):

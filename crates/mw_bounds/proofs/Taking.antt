@@ -8,7 +8,7 @@ use Rattle.mw_rel.specs.Begin.{Begin}
 use Rattle.mw_rel.specs.Case.{IsBefore}
 use Rattle.mw_rel.specs.Job.{Job}
 use Rattle.mw_fork.specs.Begins.{IsFirstOfCase, IsOfCase}
-use Rattle.mw_course.specs.CasePaths.{EndsEach}
+use Rattle.mw_course.specs.EndsEach.{EndsEach}
 use Rattle.mw_fork.specs.Walks.{IsNextBehind}
 use Rattle.mw_bounds.specs.declared.extreme.Shown.{Shown}
 use Rattle.mw_bounds.specs.declared.extreme.Side.{Side}

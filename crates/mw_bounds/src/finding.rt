@@ -67,9 +67,10 @@ fn ranges(
 /// How long the segments from each boundary of a job last, asked within a budget. It goes through the boundaries in the
 /// order of the relation, and through the cases of each in the order of their bits; nothing is compared.
 ///
-/// - `Found`: the range of each boundary. Every start of it, whatever its memory, inputs, interrupt line and undefined
-///   bits, has a length from the least to the greatest. The two starts have these: each is the first start of the first
-///   case that has one of this length. All feasible cases of each boundary are within the budget.
+/// - `Found`: the range of each boundary, in which waits aren't counted. Every start of it, whatever its memory,
+///   inputs, interrupt line, ready line and undefined bits, has a length from the least to the greatest. The two starts
+///   have these: each is the first start of the first case that has one of this length. All feasible cases of each
+///   boundary are within the budget.
 /// - `Unknown`: an operation at that word and bit, in the word list of that prefix of a case, has more joint cofactors
 ///   than the budget's nodes, and the prefix asks for one more bit, so that the operation is none of a comparison; or
 ///   that boundary has more feasible cases than the budget's paths. So where nothing is over the budget, the ranges are

@@ -4,8 +4,8 @@ use Rattle.std.specs.Prelude.{slice_index_or}
 use Rattle.std.proofs.lemmas.Option.{none-some, slice_get-get_or, slice_get_within}
 use Rattle.mw_rel.specs.Certified.{Certified}
 use Rattle.mw_rel.specs.Job.{Job, IsJob}
-use Rattle.mw_rel.specs.Laws.{NoneDiffers}
-use Rattle.mw_rel.proofs.Law.{certified_where_none_differs}
+use Rattle.mw_ready.specs.StartLaws.{NoneDiffers}
+use Rattle.mw_ready.proofs.Steps.{certified_where_none_differs}
 use Rattle.mw_fork.specs.declared.budget.Budget.{Budget}
 use Rattle.mw_check.specs.declared.verdict.Summary.{Summary}
 use Rattle.mw_check.specs.Searched.{AreSearched, IsSearched}

@@ -122,10 +122,11 @@ fn search_all(
 /// Whether a job is certified, asked within a budget. It goes through the boundaries in the order of the relation, and
 /// through the cases of each in the order of their bits, up to the first that differs or is over the budget.
 ///
-/// - `Yes`: from every start of the job, whatever its memory, inputs, interrupt line and undefined bits, each boundary
-///   of the board's run comes within the bound of the one before it, in relation with the described machine after as
-///   many steps, with equal memory, outputs and inputs taken. Each summary says how many feasible cases its boundary
-///   has, and how many cycles its longest segment; all of them are within the budget.
+/// - `Yes`: from every start of the job, whatever its memory, inputs, interrupt line, ready line and undefined bits,
+///   each boundary of the board's run comes within the bound of the one before it, in which waits aren't counted, in
+///   relation with the described machine after as many steps, with equal memory, outputs and inputs taken. Each summary
+///   says how many feasible cases its boundary has, and how many cycles its longest segment; all of them are within the
+///   budget.
 /// - `No`: the start that this counter gives differs. It is at the first boundary, and there in the first case, that
 ///   has one; of these it is what the first assignment gives under which the first comparison fails that can.
 /// - `Unknown`: an operation at that word and bit, in the word list of that prefix of a case, has more joint cofactors

@@ -2,14 +2,17 @@
 use Rattle.std.proofs.Common.{ℕ, List, ◌<◌, ◌^◌, length, replicate, slice_index, refl}
 use Rattle.std.proofs.lemmas.List.{length-replicate}
 use Rattle.mw_term.specs.declared.decided.Decided.{Decided}
-use Rattle.mw_cycle.specs.Environment.{no_values}
-use Rattle.mw_cycle.proofs.Lists.{none_is}
+use Rattle.mw_cycle.specs.Environment.{no_values as no_lists}
+use Rattle.mw_cycle.specs.SteadyEnvironment.{no_values}
+use Rattle.mw_cycle.proofs.SteadyLists.{none_is}
 use Rattle.mw_macro.proofs.Words.{zero_below}
 use Rattle.mw_rel.specs.Begin.{Begin, IsBegin, free_elements}
-use Rattle.mw_rel.specs.Case.{IsCase, IsStartAt, case_of}
+use Rattle.mw_rel.specs.Case.{IsCase}
+use Rattle.mw_rel.specs.SteadyCase.{IsStartAt, case_of}
 use Rattle.mw_rel.specs.Free.{numbered}
 use Rattle.mw_rel.specs.Job.{Job, IsJob}
-use Rattle.mw_rel.specs.Start.{Start}
+use Rattle.mw_rel.specs.SteadyStart.{Start}
+use Rattle.mw_ready.proofs.Cases.{case_with}
 use Rattle.mw_rel.proofs.Choices.{each_choice_gives_a_pair}
 use Rattle.mw_course.proofs.Grounds.{numbered_is}
 
@@ -18,7 +21,7 @@ abbrev nothing_at : (job : Job) (number : ℕ) → Begin
 nothing_at job number = record {
   values = replicate (length (free_elements job (numbered job number))) 0;
   memory = replicate (2 ^ job.relation.shape.address) 0;
-  env = no_values;
+  env = no_lists;
 }
 
 nothing_begins : (job : Job) (number : ℕ) → IsBegin job (numbered job number) (nothing_at job number)
@@ -58,4 +61,4 @@ pub some_case : (job : Job) (number : ℕ) → IsJob job → number < length job
     → (bits : List Decided) × IsCase job number bits
 some_case job number is there =
     let one = some_start job number is there in
-    (case_of job one.0, record { start = one.0; starts = one.1; bits_are = refl })
+    (case_of job one.0, case_with job number (case_of job one.0) (record { start = one.0; starts = one.1; bits_are = refl }))

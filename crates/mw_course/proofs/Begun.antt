@@ -1,12 +1,13 @@
 -- The start that an assignment gives: the values of the variables of free elements, an image that the base reads fit,
 -- and an environment with the values of its variables.
-use Rattle.std.proofs.Common.{◌≡◌, ℕ, ◌<◌, ◌^◌, List, length, map, slice_index, ap, sym, subst, ◌∙◌, arith, refl}
+use Rattle.std.proofs.Common.{◌≡◌, ℕ, ◌<◌, ◌^◌, List, [], length, map, slice_index, ap, sym, subst, ◌∙◌, arith, refl}
 use Rattle.std.specs.Prelude.{true, Option, Some, None}
 use Rattle.std.proofs.lemmas.Nat.{pow_pos}
 use Rattle.mw_board.specs.declared.parts.BoardParts.{BoardParts}
-use Rattle.mw_cycle.specs.declared.series.Series.{Series}
 use Rattle.mw_cycle.specs.Environment.{Environment, values_of}
-use Rattle.mw_cycle.specs.Series.{kind_of, width_of}
+use Rattle.mw_cycle.specs.SteadyEnvironment.{values_of as steady_values_of}
+use Rattle.mw_cycle.specs.SteadySeries.{Series, Inputs, Line, Noise, among_all, kind_of, width_of}
+use Rattle.mw_cycle.specs.Thinned.{never_waiting}
 use Rattle.mw_cycle.specs.Trimmed.{IsTrimmed}
 use Rattle.mw_term.specs.declared.kinds.WordKind.{WordKind}
 use Rattle.mw_term.specs.declared.kinds.WordKind.TheVariants.{Element}
@@ -22,12 +23,13 @@ use Rattle.mw_symboard.specs.Variables.{HaveVariables}
 use Rattle.mw_rel.specs.Begin.{Begin, free_elements}
 use Rattle.mw_rel.specs.Free.{is_free, numbered}
 use Rattle.mw_rel.specs.Job.{Job, IsJob}
-use Rattle.mw_rel.specs.Start.{Start}
+use Rattle.mw_ready.specs.Thinned.{always_ready}
+use Rattle.mw_rel.specs.SteadyStart.{Start}
 use Rattle.mw_symboard.proofs.Environments.{own_found, variables_have_widths}
 use Rattle.mw_course.specs.declared.elements.Space.{Space}
 use Rattle.mw_course.specs.Begins.{IsAssigned, IsChosen, kind_value, value_or_zero}
 use Rattle.mw_course.specs.Boundaries.{IsSpace}
-use Rattle.mw_course.specs.Entries.{entry, is_outside}
+use Rattle.mw_course.specs.Entries.{but_waits, entry, is_outside}
 use Rattle.mw_course.specs.Listed.{list_of_space}
 use Rattle.mw_course.specs.OnWay.{ground_in}
 use Rattle.mw_course.specs.Starts.{Ground, IsGround, StandsForStart}
@@ -53,24 +55,42 @@ value_below t given (Some term) width table wide = value_within t given width te
 -- each value of its lists is that of its variable
 listed : (t : Table) (words : List Word) (given : Given) (env : Environment) (series : Series) (n : ℕ)
     → HasEntries t words given env
-    → slice_index (values_of env series) n ≡ value_or_zero t given (term_of words (kind_of series n))
+    → slice_index (values_of env (among_all series)) n ≡ value_or_zero t given (term_of words (kind_of series n))
 listed t words given env series n entries =
     sym (entry_of env series n) ∙ entries (kind_of series n) (outside_of series n)
+
+-- its lists but that of the waits are all that it has without waits
+lists_same : (env : Environment) (series : Series)
+    → steady_values_of (but_waits env) series ≡ values_of env (among_all series)
+lists_same env Inputs = refl
+lists_same env Line = refl
+lists_same env Noise = refl
+
+-- where no clock waits, they are all that it has
+without_waits : (env : Environment) → env.wait ≡ [] → never_waiting (but_waits env) ≡ env
+without_waits env none = rw none refl
+
+listed_steady : (t : Table) (words : List Word) (given : Given) (env : Environment) (series : Series) (n : ℕ)
+    → HasEntries t words given env
+    → slice_index (steady_values_of (but_waits env) series) n
+    ≡ value_or_zero t given (term_of words (kind_of series n))
+listed_steady t words given env series n entries =
+    ap (λ xs. slice_index xs n) (lists_same env series) ∙ listed t words given env series n entries
 
 -- it is one of the assignment
 environment_of : (board : BoardParts) (t : Table) (words : List Word) (cycles : ℕ) (given : Given) (env : Environment)
     → IsTable t → HaveOwnKinds words → HaveVariables board t words cycles → HasEntries t words given env
-    → IsEnvironmentOf board t words given env
+    → IsEnvironmentOf board t words given (but_waits env)
 environment_of board t words cycles given env table own have entries = record {
   within = record {
     values = λ series i.
         (let bits = width_of board.width series in
-        subst (λ v. v < 2 ^ bits) (sym (listed t words given env series i entries))
+        subst (λ v. v < 2 ^ bits) (sym (listed_steady t words given env series i entries))
         (value_below t given (term_of words (kind_of series i)) bits table
         (variables_have_widths board t words cycles have series i)));
   };
   values = λ series n place term is.
-      listed t words given env series n entries
+      listed_steady t words given env series n entries
       ∙ ap (value_or_zero t given) (own_found words place term (kind_of series n) own is);
 }
 
@@ -91,19 +111,24 @@ pub start_begun : (job : Job) (number : ℕ) (space : Space) (elements : List �
     → IsGround job number (ground_in space elements)
     → begin.values ≡ map (own_value space.terms space.words given) (free_elements job (numbered job number))
     → IsImage space.memory begin.memory → FitImage space.terms given space.memory.reads begin.memory
-    → HasEntries space.terms space.words given begin.env
-    → (start : Start) × IsChosen job number begin start
+    → HasEntries space.terms space.words given begin.env → begin.env.wait ≡ []
+    → (start : Start) × IsChosen job number begin (always_ready start)
     × StandsForStart job number (ground_in space elements) given start
-start_begun job number space elements given begin is ground values image fit entries =
+start_begun job number space elements given begin is ground values image fit entries none =
     let g = ground_in space elements in
     let outside = environment_of job.board g.table g.words ground.cycles given begin.env ground.space.workspace.table
     ground.own ground.variables entries in
-    let one = start_with job number g is ground given begin.memory begin.env image fit outside in
+    let one = start_with job number g is ground given begin.memory (but_waits begin.env) image fit outside in
     let same : map (term_at g.table given elements) (free_elements job (numbered job number)) ≡ begin.values =
     sym (values ∙ free_are job number g given ground) in (
       one.0,
       subst
-          (λ vs. IsChosen job number (record { values = vs; memory = begin.memory; env = begin.env }) one.0) same one.1,
+          (λ e. IsChosen job number (record { values = begin.values; memory = begin.memory; env = e })
+          (always_ready one.0)) (without_waits begin.env none)
+          (subst
+          (λ vs. IsChosen job number
+          (record { values = vs; memory = begin.memory; env = never_waiting (but_waits begin.env) })
+          (always_ready one.0)) same one.1),
       one.2,
     )
 
@@ -117,9 +142,9 @@ pub assigned_by : (job : Job) (number : ℕ) (space : Space) (given : Given) (be
     → IsSpace job space.terms space.words space.memory
     → begin.values ≡ map (own_value space.terms space.words given) (free_elements job (numbered job number))
     → ((address : ℕ) → slice_index begin.memory address ≡ base_word space.terms given space.memory.reads address)
-    → HasEntries space.terms space.words given begin.env → IsTrimmed begin.env
+    → HasEntries space.terms space.words given begin.env → begin.env.wait ≡ [] → IsTrimmed begin.env
     → IsAssigned job number (list_of_space space) given begin
-assigned_by job number space given begin is values memory entries trimmed =
+assigned_by job number space given begin is values memory entries none trimmed =
     let l = list_of_space space in
     let table = sym (table_is job space is) in
     let free = free_elements job (numbered job number) in
@@ -129,5 +154,6 @@ assigned_by job number space given begin is values memory entries trimmed =
       lists = λ series n.
           listed space.terms space.words given begin.env series n entries
           ∙ ap (λ (t : Table). kind_value t l given (kind_of series n)) table;
+      wait = none;
       trimmed = trimmed;
     }

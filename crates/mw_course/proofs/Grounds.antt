@@ -6,7 +6,8 @@ use Rattle.std.proofs.lemmas.List.{get_or-map, get_or-take, length-map}
 use Rattle.std.proofs.lemmas.Option.{get_or_from_slice_get, slice_get-get_or}
 use Rattle.mw_board.specs.Elements.{element_count}
 use Rattle.mw_cycle.specs.Elements.{element}
-use Rattle.mw_cycle.specs.Environment.{Environment}
+use Rattle.mw_cycle.specs.SteadyEnvironment.{Environment}
+use Rattle.mw_cycle.specs.Thinned.{never_waiting}
 use Rattle.mw_expr.specs.declared.shape.Shape.{Shape}
 use Rattle.mw_expr.specs.Values as expr
 use Rattle.mw_term.specs.Assigned.{Given}
@@ -21,15 +22,17 @@ use Rattle.mw_symboard.specs.Variables.{IsOutsideNumber}
 use Rattle.mw_symboard.proofs.Environments.{environments_are_reached, environments_are_there, environments_stay}
 use Rattle.mw_symmach.specs.Expressions.{values_at}
 use Rattle.mw_rel.specs.Begin.{Begin}
-use Rattle.mw_rel.specs.Case.{IsStartAt}
+use Rattle.mw_rel.specs.SteadyCase.{IsStartAt}
 use Rattle.mw_rel.specs.Free.{no_boundary, numbered}
 use Rattle.mw_rel.specs.InRelation.{InRelation, Pair, values_of}
 use Rattle.mw_rel.specs.Job.{Job, IsJob, shape_of}
 use Rattle.mw_rel.specs.Relation.{Boundary}
-use Rattle.mw_rel.specs.Start.{Start}
+use Rattle.mw_rel.specs.SteadyStart.{Start}
 use Rattle.mw_rel.proofs.Choices.{each_choice_gives_a_pair}
 use Rattle.mw_rel.proofs.Elements.{board_value, pair_words, register_value, widths_count}
 use Rattle.mw_rel.proofs.Standing.{board_address, dropped_at}
+use Rattle.mw_ready.specs.Thinned.{always_ready}
+use Rattle.mw_ready.proofs.Alike.{always_at}
 use Rattle.mw_course.specs.Begins.{IsChosen}
 use Rattle.mw_course.specs.Starts.{Ground, HaveAll, HaveFree, HaveStarts, IsGround, StandsForStart, registers_of}
 use Rattle.mw_course.proofs.FreeValues.{begin_of, completed_free, element_inside, element_no_base, element_value}
@@ -137,12 +140,15 @@ pub start_with : (job : Job) (number : ℕ) (g : Ground) → IsJob job → IsGro
     (image : List ℕ) (env : Environment) → IsImage g.memory image → FitImage g.table given g.memory.reads image
     → IsEnvironmentOf job.board g.table g.words given env
     → (start : Start)
-    × IsChosen job number (begin_of job (numbered job number) g.table given g.elements image env) start
+    × IsChosen job number (begin_of job (numbered job number) g.table given g.elements image (never_waiting env))
+    (always_ready start)
     × StandsForStart job number g given start
 start_with job number g is ground given image env fits fit outside =
     let boundary = numbered job number in
-    let begin : Begin = begin_of job boundary g.table given g.elements image env in
-    let choice = terms_begin job boundary g.table given g.elements image env ground.space.workspace.table ground.wide
+    let waiting = never_waiting env in
+    let begin : Begin = begin_of job boundary g.table given g.elements image waiting in
+    let choice = terms_begin job boundary g.table given g.elements image waiting ground.space.workspace.table
+    ground.wide
     (image_of_job job number g image is ground fits) in
     let pair = each_choice_gives_a_pair job number begin is ground.there choice in
     let memory : pair.0.board.memory ≡ image = pair.1.related.memory ∙ pair.1.memory in
@@ -153,9 +159,10 @@ start_with job number g is ground given image env fits fit outside =
       there = there;
     } in (
       start,
-      record { starts = starts; pair = pair.1; env = refl },
+      record { starts = always_at job number start starts; pair = pair.1; env = refl },
       start_of job number g given start is ground starts
-          (λ n below free. completed_free job boundary g.table given g.elements image env pair.0 n pair.1 below free)
+          (λ n below free.
+          completed_free job boundary g.table given g.elements image waiting pair.0 n pair.1 below free)
           (subst (λ xs. FitImage g.table given g.memory.reads xs) (sym memory) fit) outside,
     )
 

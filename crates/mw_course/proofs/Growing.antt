@@ -26,7 +26,7 @@ use Rattle.mw_symboard.proofs.Variables.{none_both, none_kind}
 use Rattle.mw_symmach.specs.Expressions.{AreTerms, values_at}
 use Rattle.mw_symmach.proofs.Making.{values_same}
 use Rattle.mw_rel.specs.Job.{Job, IsJob}
-use Rattle.mw_rel.specs.Start.{Start}
+use Rattle.mw_rel.specs.SteadyStart.{Start}
 use Rattle.mw_rel.proofs.Standing.{dropped_at}
 use Rattle.mw_symboard.proofs.Environments.{either}
 use Rattle.mw_course.specs.Boundaries.{AreWide}

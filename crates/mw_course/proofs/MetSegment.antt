@@ -7,12 +7,13 @@ use Rattle.mw_cycle.specs.Boundary.{is_named}
 use Rattle.mw_term.specs.Assigned.{Given}
 use Rattle.mw_symboard.specs.Laws.{bits_in}
 use Rattle.mw_symboard.proofs.Runs.{elements_have_terms}
-use Rattle.mw_rel.specs.CaseLaws.{HasNoBoundaryYet}
-use Rattle.mw_rel.specs.Certified.{at_cycle}
+use Rattle.mw_rel.specs.SteadyCaseLaws.{HasNoBoundaryYet}
+use Rattle.mw_rel.specs.SteadyCertified.{at_cycle}
 use Rattle.mw_rel.specs.Free.{numbered}
 use Rattle.mw_rel.specs.Job.{Job}
 use Rattle.mw_rel.specs.Relation.{Boundary}
-use Rattle.mw_rel.specs.Start.{Start, addresses_of}
+use Rattle.mw_rel.specs.Start.{addresses_of}
+use Rattle.mw_rel.specs.SteadyStart.{Start}
 use Rattle.mw_course.specs.declared.run.Run.{Run}
 use Rattle.mw_course.specs.CasePaths.{HasNoBoundary}
 use Rattle.mw_course.specs.Ends.{IsBoardOf}

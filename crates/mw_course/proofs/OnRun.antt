@@ -28,8 +28,8 @@ use Rattle.mw_symboard.specs.Turns.{IsSymbolic, IsTurn, Symbolic, decided_so}
 use Rattle.mw_symboard.specs.Variables.{HasVariables}
 use Rattle.mw_symboard.proofs.Environments.{begun_has_variables, cycles_are_there, variables_stay}
 use Rattle.mw_symboard.proofs.OnPaths.{paths_begin, paths_go_on, paths_take_bits}
-use Rattle.mw_rel.specs.Case.{cycles_of}
-use Rattle.mw_rel.specs.CaseLaws.{HasNoBoundaryYet}
+use Rattle.mw_rel.specs.SteadyCase.{cycles_of}
+use Rattle.mw_rel.specs.SteadyCaseLaws.{HasNoBoundaryYet}
 use Rattle.mw_rel.specs.Free.{numbered}
 use Rattle.mw_rel.specs.Job.{Job, IsJob}
 use Rattle.mw_rel.specs.Relation.{Boundary}

@@ -9,7 +9,7 @@ use Rattle.mw_macro.specs.State.{MachineState}
 use Rattle.mw_macro.specs.Statements.{nothing}
 use Rattle.mw_macro.specs.StepWords.{begun_words}
 use Rattle.mw_term.specs.declared.decided.Decided.{Decided}
-use Rattle.mw_cycle.specs.declared.series.Series.TheVariants as lists
+use Rattle.mw_cycle.specs.SteadySeries as lists
 use Rattle.mw_cycle.specs.Decided.{decided}
 use Rattle.mw_cycle.proofs.Lists.{bit_at}
 use Rattle.mw_term.specs.Assigned.{Given}
@@ -40,9 +40,9 @@ use Rattle.mw_symmach.specs.Turns.{Stepping, bits_to_come, end_of, given_so, is_
 use Rattle.mw_symmach.specs.Walks.{Walks, asked_by, chosen, underway_in, underway_of}
 use Rattle.mw_symmach.proofs.Acting.{found}
 use Rattle.mw_symmach.proofs.InStep.{bits_are_of_the_step, turns_are_of_the_step}
-use Rattle.mw_rel.specs.Case.{bits_of_cycles, bits_of_step, case_of}
+use Rattle.mw_rel.specs.SteadyCase.{bits_of_cycles, bits_of_step, case_of}
 use Rattle.mw_rel.specs.Job.{Job, IsJob}
-use Rattle.mw_rel.specs.Start.{Start}
+use Rattle.mw_rel.specs.SteadyStart.{Start}
 use Rattle.mw_rel.proofs.Cases.{cases_begin_with_cycles}
 use Rattle.mw_course.specs.declared.elements.Space.{Space}
 use Rattle.mw_course.specs.declared.run.Run.{Run}

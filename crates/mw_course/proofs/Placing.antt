@@ -8,11 +8,14 @@ use Rattle.std.proofs.lemmas.Bool.Decides.{nat_tests}
 use Rattle.std.proofs.lemmas.List.{length-set}
 use Rattle.std.proofs.lemmas.Nat.{pow_pos}
 use Rattle.mw_cycle.specs.declared.series.Series.{Series}
+use Rattle.mw_cycle.specs.declared.series.Series.TheVariants.{Inputs, Line, Noise, Wait}
 use Rattle.mw_cycle.specs.Environment.{Environment, values_of, with_value, with_values}
-use Rattle.mw_cycle.specs.Series.{kind_of, series_of_kind, width_of}
+use Rattle.mw_cycle.specs.Series.{series_of_kind, width_of}
+use Rattle.mw_cycle.specs.SteadySeries.{Series as SteadySeries, among_all, kind_of}
 use Rattle.mw_cycle.specs.Trimmed.{EndsWell, IsTrimmed}
-use Rattle.mw_cycle.proofs.Named.{kind_named, own_number, own_series, same_or_other, series_of_kind_back}
-use Rattle.mw_cycle.proofs.Lists.{behind_length, other_behind, other_set, own_behind, own_set}
+use Rattle.mw_cycle.proofs.Named.{any_named, any_series_back, apart_among, own_number, own_series}
+use Rattle.mw_cycle.proofs.Named.{same_or_other as steady_or_other}
+use Rattle.mw_cycle.proofs.Lists.{behind_length, other_behind, other_set, own_behind, own_set, same_or_other}
 use Rattle.mw_term.specs.declared.kinds.WordKind.{WordKind}
 use Rattle.mw_term.specs.WordList.{same_kind}
 use Rattle.mw_symmem.specs.Kinds.{kind_is, kind_own}
@@ -21,17 +24,22 @@ use Rattle.mw_course.specs.Entries.{HasTaken, entry, is_outside, value_at}
 
 -- ---- what an environment has for its variables
 
-pub entry_of : (env : Environment) (series : Series) (n : ℕ)
-    → entry env (kind_of series n) ≡ slice_index (values_of env series) n
-entry_of env series n = ap (value_at env) (series_of_kind_back series n)
+-- the values of a list that has variables
+abbrev values_in : Environment → SteadySeries → List ℕ
+values_in env series = values_of env (among_all series)
 
-pub outside_of : (series : Series) (n : ℕ) → is_outside (kind_of series n) ≡ true
-outside_of series n = ap (λ named. is_some named) (series_of_kind_back series n)
+pub entry_of : (env : Environment) (series : SteadySeries) (n : ℕ)
+    → entry env (kind_of series n) ≡ slice_index (values_in env series) n
+entry_of env series n = ap (value_at env) (any_series_back series n)
+
+pub outside_of : (series : SteadySeries) (n : ℕ) → is_outside (kind_of series n) ≡ true
+outside_of series n = ap (λ named. is_some named) (any_series_back series n)
 
 -- the kinds that are those of variables of an environment
 outside_named : (kind : WordKind) (o : Option (Series × ℕ)) → series_of_kind kind ≡ o → is_some o ≡ true
-    → (series : Series) × (n : ℕ) × (kind ≡ kind_of series n)
-outside_named kind (Some named) is some = (named.0, named.1, kind_named kind named.0 named.1 is)
+    → (series : SteadySeries) × (n : ℕ) × (kind ≡ kind_of series n)
+outside_named kind (Some named) is some =
+    let list = any_named kind named is in (list.0, named.1, list.2)
 outside_named kind None is some = absurd cc
 
 -- a kind has a value where it is one of an environment's variables, and else 0
@@ -55,8 +63,8 @@ kinds_apart a b other = tested_apart a b (same_kind a b) refl other
 
 -- it is enough that the lists have it
 taken_by : (old new : Environment) (kind : WordKind) (value : ℕ)
-    → ((series : Series) (n : ℕ) → slice_index (values_of new series) n
-    ≡ (if same_kind kind (kind_of series n) then value else slice_index (values_of old series) n))
+    → ((series : SteadySeries) (n : ℕ) → slice_index (values_in new series) n
+    ≡ (if same_kind kind (kind_of series n) then value else slice_index (values_in old series) n))
     → HasTaken old new kind value
 taken_by old new kind value each other outside =
     let named = outside_named other (series_of_kind other) refl outside in
@@ -111,6 +119,7 @@ set_ends xs number value some inside ends = λ any none.
 -- that one, which then ends at the place.
 pub record HasFilled (series : Series) (at : ℕ) (old new : Environment) : Type 0 where
   pub values : (other : Series) (n : ℕ) → slice_index (values_of new other) n ≡ slice_index (values_of old other) n
+  pub wait : series ≢ Wait → new.wait ≡ old.wait
   pub ends : (other : Series) → EndsWell (values_of old other)
       → EndsWell (values_of new other) ⊎ ((other ≡ series) × (length (values_of new series) ≤ at + 1))
 
@@ -125,12 +134,28 @@ one_behind series other env n = elim (same_or_other other series) [
   | inr differs ↦ ap (λ xs. slice_index xs n) (other_behind series other (0 ∷ []) env differs)
 ]
 
+-- no wait bit comes to another list
+wait_behind : (series : Series) (values : List ℕ) (env : Environment) → series ≢ Wait
+    → (with_values series values env).wait ≡ env.wait
+wait_behind Inputs values env other = refl
+wait_behind Line values env other = refl
+wait_behind Noise values env other = refl
+wait_behind Wait values env other = absurd (other refl)
+
+wait_put : (series : Series) (number value : ℕ) (env : Environment) → series ≢ Wait
+    → (with_value series number value env).wait ≡ env.wait
+wait_put Inputs number value env other = refl
+wait_put Line number value env other = refl
+wait_put Noise number value env other = refl
+wait_put Wait number value env other = absurd (other refl)
+
 -- with one more
 pub one_filled : (series : Series) (at : ℕ) (old env new : Environment) → length (values_of env series) ≤ at
     → new ≡ with_values series (0 ∷ []) env → HasFilled series at old env → HasFilled series at old new
 one_filled series at old env new before is filled =
     subst (HasFilled series at old) (sym is) (record {
       values = λ other n. one_behind series other env n ∙ filled.values other n;
+      wait = λ other. wait_behind series (0 ∷ []) env other ∙ filled.wait other;
       ends = λ other well. elim (same_or_other other series) [
         | inl own ↦ inr (own, omega (arith, before, behind_length series (0 ∷ []) env))
         | inr differs ↦ elim (filled.ends other well) [
@@ -142,7 +167,7 @@ one_filled series at old env new before is filled =
 
 -- ---- a value at the place
 
-same_of : (series : Series) (m n : ℕ) → same_kind (kind_of series m) (kind_of series n) ≡ (m == n)
+same_of : (series : SteadySeries) (m n : ℕ) → same_kind (kind_of series m) (kind_of series n) ≡ (m == n)
 same_of series m n =
     both_ways (same_kind (kind_of series m) (kind_of series n)) (m == n)
     (λ same. eq-eqb m n (own_number series series m n (kind_is (kind_of series m) (kind_of series n) same)))
@@ -150,47 +175,72 @@ same_of series m n =
     subst (λ (k : ℕ). same_kind (kind_of series m) (kind_of series k) ≡ true) (eqb-true m n equal)
     (kind_own (kind_of series m)))
 
-own_put : (series : Series) (number value : ℕ) (env : Environment) (n : ℕ) → value < 2 ^ width_of 32 series
-    → number < length (values_of env series)
-    → slice_index (values_of (with_value series number value env) series) n
-    ≡ (if same_kind (kind_of series number) (kind_of series n) then value else slice_index (values_of env series) n)
+own_put : (series : SteadySeries) (number value : ℕ) (env : Environment) (n : ℕ)
+    → value < 2 ^ width_of 32 (among_all series)
+    → number < length (values_in env series)
+    → slice_index (values_in (with_value (among_all series) number value env) series) n
+    ≡ (if same_kind (kind_of series number) (kind_of series n) then value else slice_index (values_in env series) n)
 own_put series number value env n small inside =
-    ap (λ xs. slice_index xs n) (own_set series 32 number value env small)
-    ∙ set_value (values_of env series) number value n inside
-    ∙ ap (λ (b : Bool). if b then value else slice_index (values_of env series) n) (sym (same_of series number n))
+    ap (λ xs. slice_index xs n) (own_set (among_all series) 32 number value env small)
+    ∙ set_value (values_in env series) number value n inside
+    ∙ ap (λ (b : Bool). if b then value else slice_index (values_in env series) n) (sym (same_of series number n))
 
-other_put : (series other : Series) (number value : ℕ) (env : Environment) (n : ℕ) → other ≢ series
-    → slice_index (values_of (with_value series number value env) other) n
-    ≡ (if same_kind (kind_of series number) (kind_of other n) then value else slice_index (values_of env other) n)
+other_put : (series other : SteadySeries) (number value : ℕ) (env : Environment) (n : ℕ) → other ≢ series
+    → slice_index (values_in (with_value (among_all series) number value env) other) n
+    ≡ (if same_kind (kind_of series number) (kind_of other n) then value else slice_index (values_in env other) n)
 other_put series other number value env n differs =
     let apart =
     kinds_apart (kind_of series number) (kind_of other n) (λ is. differs (sym (own_series series other number n is))) in
-    ap (λ xs. slice_index xs n) (other_set series other number value env differs)
-    ∙ ap (λ (b : Bool). if b then value else slice_index (values_of env other) n) (sym apart)
+    ap (λ xs. slice_index xs n)
+    (other_set (among_all series) (among_all other) number value env (apart_among other series differs))
+    ∙ ap (λ (b : Bool). if b then value else slice_index (values_in env other) n) (sym apart)
 
-put_value : (series other : Series) (number value : ℕ) (env : Environment) (n : ℕ) → value < 2 ^ width_of 32 series
-    → number < length (values_of env series)
-    → slice_index (values_of (with_value series number value env) other) n
-    ≡ (if same_kind (kind_of series number) (kind_of other n) then value else slice_index (values_of env other) n)
-put_value series other number value env n small inside = elim (same_or_other other series) [
+put_value : (series other : SteadySeries) (number value : ℕ) (env : Environment) (n : ℕ)
+    → value < 2 ^ width_of 32 (among_all series)
+    → number < length (values_in env series)
+    → slice_index (values_in (with_value (among_all series) number value env) other) n
+    ≡ (if same_kind (kind_of series number) (kind_of other n) then value else slice_index (values_in env other) n)
+put_value series other number value env n small inside = elim (steady_or_other other series) [
   | inl is ↦
-      let new = with_value series number value env in
-      subst (λ (s : Series). slice_index (values_of new s) n
-      ≡ (if same_kind (kind_of series number) (kind_of s n) then value else slice_index (values_of env s) n)) (sym is)
+      let new = with_value (among_all series) number value env in
+      subst (λ (s : SteadySeries). slice_index (values_in new s) n
+      ≡ (if same_kind (kind_of series number) (kind_of s n) then value else slice_index (values_in env s) n)) (sym is)
       (own_put series number value env n small inside)
   | inr differs ↦ other_put series other number value env n differs
 ]
 
 -- the entry of its variable is the value
-pub put_taken : (series : Series) (number value : ℕ) (old env new : Environment) → value < 2 ^ width_of 32 series
-    → number < length (values_of env series) → HasFilled series number old env
-    → new ≡ with_value series number value env → HasTaken old new (kind_of series number) value
+put_taken : (series : SteadySeries) (number value : ℕ) (old env new : Environment)
+    → value < 2 ^ width_of 32 (among_all series)
+    → number < length (values_in env series) → HasFilled (among_all series) number old env
+    → new ≡ with_value (among_all series) number value env → HasTaken old new (kind_of series number) value
 put_taken series number value old env new small inside filled is =
     taken_by old new (kind_of series number) value
     (λ other n.
-    ap (λ (e : Environment). slice_index (values_of e other) n) is
+    ap (λ (e : Environment). slice_index (values_in e other) n) is
     ∙ put_value series other number value env n small inside
-    ∙ ap (λ v. if same_kind (kind_of series number) (kind_of other n) then value else v) (filled.values other n))
+    ∙ ap (λ v. if same_kind (kind_of series number) (kind_of other n) then value else v)
+    (filled.values (among_all other) n))
+
+-- so is that of each kind that stands for a value of the list
+pub put_named : (kind : WordKind) (series : Series) (number value : ℕ) (old env new : Environment)
+    → series_of_kind kind ≡ Some (series, number) → value < 2 ^ width_of 32 series
+    → number < length (values_of env series) → HasFilled series number old env
+    → new ≡ with_value series number value env → HasTaken old new kind value
+put_named kind series number value old env new named small inside filled is =
+    let list = any_named kind (series, number) named in
+    subst (λ (k : WordKind). HasTaken old new k value) (sym list.2)
+    (put_taken list.0 number value old env new
+    (subst (λ (s : Series). value < 2 ^ width_of 32 s) list.1 small)
+    (subst (λ (s : Series). number < length (values_of env s)) list.1 inside)
+    (subst (λ (s : Series). HasFilled s number old env) list.1 filled)
+    (subst (λ (s : Series). new ≡ with_value s number value env) list.1 is))
+
+-- and no wait bit is another, where the list isn't that of waits
+pub put_waits : (series : Series) (number value : ℕ) (old env new : Environment) → HasFilled series number old env
+    → new ≡ with_value series number value env → series ≢ Wait → new.wait ≡ old.wait
+put_waits series number value old env new filled is other =
+    ap (λ (e : Environment). e.wait) is ∙ wait_put series number value env other ∙ filled.wait other
 
 put_ends : (series other : Series) (number value : ℕ) (old env : Environment) → value ≢ 0
     → value < 2 ^ width_of 32 series → number < length (values_of env series) → HasFilled series number old env

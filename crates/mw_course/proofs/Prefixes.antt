@@ -13,9 +13,9 @@ use Rattle.mw_term.specs.Values.{term_value}
 use Rattle.mw_symboard.specs.Paths.{IsBy}
 use Rattle.mw_symboard.specs.Seen.{AreFirst}
 use Rattle.mw_symboard.proofs.RunBits.{and_rest, first_before, first_next, first_of}
-use Rattle.mw_rel.specs.Case.{IsFeasiblePrefix, case_of}
+use Rattle.mw_rel.specs.SteadyCase.{IsFeasiblePrefix, case_of}
 use Rattle.mw_rel.specs.Job.{Job}
-use Rattle.mw_rel.specs.Start.{Start}
+use Rattle.mw_rel.specs.SteadyStart.{Start}
 use Rattle.mw_course.specs.CasePaths.{IsCasePath, IsNextOfCase}
 use Rattle.mw_course.specs.Starts.{Ground, HaveStarts, StandsForStart}
 

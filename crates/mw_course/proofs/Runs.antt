@@ -4,9 +4,9 @@ use Rattle.std.proofs.Common.{length-drop, slice_index, ap, sym, subst, ◌∙�
 use Rattle.std.specs.Prelude.{Bool, Option, Some, None}
 use Rattle.std.proofs.lemmas.Bool.{cases_lt}
 use Rattle.std.proofs.lemmas.List.{get_or-take}
-use Rattle.mw_cycle.specs.declared.series.Series.{Series}
-use Rattle.mw_cycle.specs.declared.series.Series.TheVariants.{Inputs}
-use Rattle.mw_cycle.specs.Series.{kind_of, series_of_kind}
+use Rattle.mw_cycle.specs.SteadySeries.{Series}
+use Rattle.mw_cycle.specs.SteadySeries.{Inputs}
+use Rattle.mw_cycle.specs.SteadySeries.{kind_of, series_of_kind}
 use Rattle.mw_cycle.proofs.Named.{no_kind, no_variable}
 use Rattle.mw_term.specs.declared.decided.DecidedKind.{DecidedKind}
 use Rattle.mw_term.specs.declared.kinds.WordKind.{WordKind}

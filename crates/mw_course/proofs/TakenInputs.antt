@@ -10,8 +10,8 @@ use Rattle.mw_board.specs.declared.bit.DFrom.TheVariants as sources
 use Rattle.mw_board.specs.declared.parts.BoardParts.{BoardParts}
 use Rattle.mw_cycle.specs.Cycle.{event_from, nets_of}
 use Rattle.mw_cycle.specs.declared.state.CycleIn.{CycleIn}
-use Rattle.mw_cycle.specs.Environment.{Environment, given_at}
-use Rattle.mw_cycle.specs.Run.{longer_run, run_of}
+use Rattle.mw_cycle.specs.SteadyEnvironment.{Environment, given_at}
+use Rattle.mw_cycle.specs.SteadyRun.{longer_run, run_of}
 use Rattle.mw_cycle.specs.State.{BoardState}
 use Rattle.mw_expr.specs.declared.shape.Shape.{Shape}
 use Rattle.mw_expr.specs.Values.{value}

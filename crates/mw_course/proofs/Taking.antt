@@ -8,10 +8,10 @@ use Rattle.std.proofs.lemmas.List.Elements.{filter-append}
 use Rattle.std.proofs.lemmas.Option.{get_or_from_slice_get, slice_get_read, slice_get_within}
 use Rattle.mw_board.specs.declared.parts.BoardParts.{BoardParts}
 use Rattle.mw_cycle.specs.Boundary.{numbers}
-use Rattle.mw_cycle.specs.declared.series.Series.{Series}
+use Rattle.mw_cycle.specs.SteadySeries.{Series}
 use Rattle.mw_cycle.specs.Environment.{Environment}
-use Rattle.mw_cycle.specs.Series.{kind_of, width_of}
-use Rattle.mw_cycle.proofs.Lists.{widths_within}
+use Rattle.mw_cycle.specs.SteadySeries.{kind_of, width_of}
+use Rattle.mw_cycle.proofs.SteadyLists.{widths_within}
 use Rattle.mw_term.specs.declared.kinds.WordKind.{WordKind}
 use Rattle.mw_term.specs.declared.word.Word.{Word}
 use Rattle.mw_term.specs.Assigned.{Given}

@@ -7,15 +7,18 @@ use Rattle.mw_term.specs.Cofactors.{Agree}
 use Rattle.mw_term.specs.Functions.{always, Function}
 use Rattle.mw_symboard.specs.Seen.{AreFirst}
 use Rattle.mw_symmach.specs.Turns.{Stepping}
-use Rattle.mw_rel.specs.Case.{IsCase, bits_of_cycles, case_of}
+use Rattle.mw_rel.specs.SteadyCase.{IsCase, bits_of_cycles, case_of}
 use Rattle.mw_rel.specs.Free.{numbered}
 use Rattle.mw_rel.specs.Job.{Job, IsJob}
 use Rattle.mw_rel.specs.PathWords.{path_of}
 use Rattle.mw_rel.specs.Relation.{Boundary}
 use Rattle.mw_rel.proofs.Cases.{cases_begin_with_cycles}
 use Rattle.mw_rel.proofs.Relations.{solved_at}
+use Rattle.mw_ready.specs.Thinned.{thinned_start}
+use Rattle.mw_ready.proofs.Alike.{thinned_at}
+use Rattle.mw_ready.proofs.Cases.{cases_are_thinned}
 use Rattle.mw_course.specs.declared.run.Run.{Run}
-use Rattle.mw_course.specs.CasePaths.{EndsEach}
+use Rattle.mw_course.specs.EndsEach.{EndsEach}
 use Rattle.mw_course.specs.OnWay.{HasMetCase, HasMetSegment, IsFirst, IsOnRun, ground_in}
 use Rattle.mw_course.specs.Runs.{IsIdle}
 use Rattle.mw_course.proofs.Along.{comes_to_next}
@@ -99,9 +102,13 @@ pub ends_met : (job : Job) (number : ℕ) (elements : List ℕ) (cycles : ℕ) (
     (path : Function) (run : Run) (step : Option Stepping) → IsJob job
     → HasMetCase job number elements cycles late bits path run step
     → EndsEach job number bits cycles late
-ends_met job number elements cycles late bits path run step is met = λ start starts same.
-    let one = (have_starts job number (ground_in run.space elements) is met.on.stands).reached start starts in
+ends_met job number elements cycles late bits path run step is met = λ any starts same.
+    let start = thinned_start job any in
+    let thin = cases_are_thinned job any in
+    let of_case : case_of job start ≡ bits = sym thin.bits ∙ same in
+    let one = (have_starts job number (ground_in run.space elements) is met.on.stands).reached start
+    (thinned_at job number any starts) in
     let begins : AreFirst bits (case_of job start) =
-    subst (AreFirst bits) (sym same) (take_all (length bits) bits (omega arith)) in
+    subst (AreFirst bits) (sym of_case) (take_all (length bits) bits (omega arith)) in
     let ends = met.ended one.0 start one.1 (met.on.cases.only one.0 start one.1 begins) in
-    (ends.cycles_are, ends.late_is)
+    (thin.cycles ∙ ends.cycles_are, thin.late ∙ ends.late_is)

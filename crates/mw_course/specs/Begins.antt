@@ -1,8 +1,7 @@
 -- The start that an assignment gives.
-use Rattle.std.specs.Prelude.{◌≡◌, ℕ, map, Option, Some, None, slice_index}
-use Rattle.mw_cycle.specs.declared.series.Series.{Series}
+use Rattle.std.specs.Prelude.{◌≡◌, ℕ, [], map, Option, Some, None, slice_index}
 use Rattle.mw_cycle.specs.Environment.{values_of}
-use Rattle.mw_cycle.specs.Series.{kind_of}
+use Rattle.mw_cycle.specs.SteadySeries.{Series, among_all, kind_of}
 use Rattle.mw_cycle.specs.Trimmed.{IsTrimmed}
 use Rattle.mw_rel.specs.Begin.{Begin, IsCompleted, free_elements}
 use Rattle.mw_rel.specs.Case.{IsStartAt}
@@ -27,7 +26,7 @@ abbrev pub kind_value : Table → WordList → Given → WordKind → ℕ
 kind_value t l given kind = value_or_zero t given (term_of l.words kind)
 
 -- What an assignment gives by a list: the free elements and the lists of the environment have the values of their
--- variables, and the memory that of the oldest base read at an address, and 0 elsewhere.
+-- variables, no clock waits, and the memory has the value of the oldest base read at an address, and 0 elsewhere.
 pub record IsAssigned (job : Job) (number : ℕ) (l : WordList) (given : Given) (begin : Begin) : Type 0 where
   pub values : begin.values
       ≡ map (λ e. kind_value (table_in job.board.map_entries l) l given (Element e))
@@ -35,8 +34,9 @@ pub record IsAssigned (job : Job) (number : ℕ) (l : WordList) (given : Given) 
   pub memory : (address : ℕ)
       → slice_index begin.memory address ≡ base_word (table_in job.board.map_entries l) given l.reads address
   pub lists : (series : Series) (n : ℕ)
-      → slice_index (values_of begin.env series) n
+      → slice_index (values_of begin.env (among_all series)) n
       ≡ kind_value (table_in job.board.map_entries l) l given (kind_of series n)
+  pub wait : begin.env.wait ≡ []
   pub trimmed : IsTrimmed begin.env
 
 -- a start of the boundary that a choice gives

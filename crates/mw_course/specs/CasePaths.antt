@@ -7,10 +7,10 @@ use Rattle.mw_term.specs.declared.decided.DecidedKind.{DecidedKind}
 use Rattle.mw_term.specs.Functions.{Function}
 use Rattle.mw_term.specs.Values.{term_value}
 use Rattle.mw_symboard.specs.Seen.{AreFirst}
-use Rattle.mw_rel.specs.Case.{IsStartAt, bits_of_cycles, case_of, cycles_of, is_late}
-use Rattle.mw_rel.specs.CaseLaws.{HasNoBoundaryYet}
+use Rattle.mw_rel.specs.SteadyCase.{IsStartAt, bits_of_cycles, case_of, cycles_of, is_late}
+use Rattle.mw_rel.specs.SteadyCaseLaws.{HasNoBoundaryYet}
 use Rattle.mw_rel.specs.Job.{Job}
-use Rattle.mw_rel.specs.Start.{Start}
+use Rattle.mw_rel.specs.SteadyStart.{Start}
 use Rattle.mw_course.specs.Starts.{Ground, StandsForStart}
 
 -- where a path is true, this holds of the start
@@ -49,8 +49,3 @@ HasSegment job number g path cycles late bits = OnPath job number g path (EndsSo
 -- where the path is true, these are all bits of the start's case
 abbrev pub HasCase : Job → (number : ℕ) → Ground → (path : Function) → (bits : List Decided) → Type 0
 HasCase job number g path bits = OnPath job number g path (λ start. case_of job start ≡ bits)
-
--- each start with this case has a segment of so many cycles, which is late or isn't
-abbrev pub EndsEach : Job → (number : ℕ) → (bits : List Decided) → (cycles : ℕ) → (late : Bool) → Type 0
-EndsEach job number bits cycles late = (start : Start) → IsStartAt job number start → case_of job start ≡ bits
-    → (cycles_of job start ≡ cycles) × (is_late job start ≡ late)

@@ -5,7 +5,7 @@ use Rattle.mw_macro.specs.DescribedStep.{ended, step_of}
 use Rattle.mw_rel.specs.CaseWords.{case_words, whole, with_comparisons}
 use Rattle.mw_rel.specs.ComparisonWords.{compared_in}
 use Rattle.mw_rel.specs.Job.{Job}
-use Rattle.mw_rel.specs.Start.{Start}
+use Rattle.mw_rel.specs.SteadyStart.{Start}
 use Rattle.mw_term.specs.Assigned.{Given}
 use Rattle.mw_term.specs.Functions.{Function}
 use Rattle.mw_symboard.specs.Laws.{IsInRun}

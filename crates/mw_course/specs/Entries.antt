@@ -3,6 +3,7 @@ use Rattle.std.specs.Prelude.{◌≡◌, ℕ, Bool, true, if◌then◌else◌, O
 use Rattle.mw_cycle.specs.declared.series.Series.{Series}
 use Rattle.mw_cycle.specs.Environment.{Environment, values_of}
 use Rattle.mw_cycle.specs.Series.{series_of_kind}
+use Rattle.mw_cycle.specs.SteadyEnvironment.{Environment as SteadyEnvironment}
 use Rattle.mw_term.specs.declared.kinds.WordKind.{WordKind}
 use Rattle.mw_term.specs.WordList.{same_kind}
 
@@ -18,6 +19,10 @@ entry env kind = value_at env (series_of_kind kind)
 -- whether a kind is that of a variable of an environment
 abbrev pub is_outside : WordKind → Bool
 is_outside kind = is_some (series_of_kind kind)
+
+-- an environment but for its wait list
+abbrev pub but_waits : Environment → SteadyEnvironment
+but_waits env = record { line = env.line; noise = env.noise; inputs = env.inputs }
 
 -- the value for this kind is this, and each other as it was
 abbrev pub HasTaken : (old new : Environment) → WordKind → (value : ℕ) → Type 0

@@ -1,6 +1,7 @@
 pub mod Begins
 pub mod Boundaries
 pub mod CasePaths
+pub mod EndsEach
 pub mod Courses
 pub mod Ends
 pub mod Entries

@@ -21,7 +21,7 @@ use Rattle.mw_rel.specs.CaseWords.{case_words, whole}
 use Rattle.mw_rel.specs.ComparisonWords.{compared_in}
 use Rattle.mw_rel.specs.Free.{numbered}
 use Rattle.mw_rel.specs.Job.{Job}
-use Rattle.mw_rel.specs.Start.{Start}
+use Rattle.mw_rel.specs.SteadyStart.{Start}
 use Rattle.mw_course.specs.declared.elements.Space.{Space}
 use Rattle.mw_course.specs.declared.run.Run.{Run}
 use Rattle.mw_course.specs.CasePaths.{HasCase, HasNoBoundary, HasSegment, IsNextOfCase, IsCasePath}
@@ -31,7 +31,7 @@ use Rattle.mw_course.specs.Listed.{left_of_cycles, left_of_step, list_of_space, 
 use Rattle.mw_course.specs.Runs.{IsUnder}
 use Rattle.mw_course.specs.Starts.{IsGround, StandsForStart, origin_of, registers_of, Ground, ground_of}
 use Rattle.mw_course.specs.Steps.{said_from}
-use Rattle.mw_rel.specs.Case.{IsFeasiblePrefix}
+use Rattle.mw_rel.specs.SteadyCase.{IsFeasiblePrefix}
 use Rattle.mw_rel.specs.PathWords.{path_of}
 
 -- a run of a job, within a cycle of its board

@@ -1,4 +1,4 @@
--- What is known of the starts at a boundary as a run goes on, and which assignments stand for which starts.
+-- What is known of the starts without waits at a boundary as a run goes on, and which assignments stand for which.
 use Rattle.std.specs.Prelude.{◌≡◌, ℕ, ◌<◌, ◌++◌, List, drop, length, take, true, slice_index}
 use Rattle.mw_board.specs.Elements.{element_count}
 use Rattle.mw_term.specs.Assigned.{Given}
@@ -13,11 +13,11 @@ use Rattle.mw_symboard.specs.Laws.{Course}
 use Rattle.mw_symboard.specs.Paths.{IsOneOf, Origin}
 use Rattle.mw_symboard.specs.Variables.{HaveVariables}
 use Rattle.mw_symmach.specs.Expressions.{values_at}
-use Rattle.mw_rel.specs.Case.{IsStartAt}
+use Rattle.mw_rel.specs.SteadyCase.{IsStartAt}
 use Rattle.mw_rel.specs.Free.{is_free, numbered}
 use Rattle.mw_rel.specs.InRelation.{Pair, InRelation, values_of}
 use Rattle.mw_rel.specs.Job.{Job}
-use Rattle.mw_rel.specs.Start.{Start}
+use Rattle.mw_rel.specs.SteadyStart.{Start}
 use Rattle.mw_course.specs.Boundaries.{AreWide, IsSpace}
 
 -- what a run works on: a table of terms, the words of the case, a memory over them, and the terms of all elements at
@@ -55,7 +55,7 @@ pub record StandsForStart (job : Job) (number : ℕ) (g : Ground) (given : Given
   pub board : IsOneOf job.board g.table g.words g.memory (origin_of job number g.elements) given (course_of start)
   pub registers : start.pair.machine.registers ≡ values_at g.table given (registers_of job g.elements)
 
--- each assignment is that of a start at the boundary, and each start has an assignment
+-- each assignment is that of a start without waits at the boundary, and each of these has an assignment
 pub record HaveStarts (job : Job) (number : ℕ) (g : Ground) : Type 0 where
   pub there : (given : Given) → (start : Start) × StandsForStart job number g given start
   pub reached : (start : Start) → IsStartAt job number start → (given : Given) × StandsForStart job number g given start

@@ -1,8 +1,9 @@
 // The start that an assignment gives.
 ghost use Rattle.std.specs.Prelude.{◌≡◌, ◌≢◌, ℕ, ◌<◌, ◌^◌, if◌then◌else◌, List, [], ◌∷◌, ◌++◌, filter, length, map};
 ghost use Rattle.std.specs.Prelude.{true, Some, IfOk, OnOk};
-ghost use Rattle.mw_cycle.specs.declared.series.Series.{Series};
-ghost use Rattle.mw_cycle.specs.Series.{kind_of, width_of};
+ghost use Rattle.mw_cycle.specs.declared.series.Series.TheVariants.{Wait};
+ghost use Rattle.mw_cycle.specs.Series.{series_of_kind, width_of};
+ghost use Rattle.mw_cycle.specs.SteadySeries.{Series as SteadySeries, kind_of, width_of as steady_width_of};
 ghost use Rattle.mw_cycle.specs.Trimmed.{IsTrimmed};
 ghost use Rattle.mw_term.specs.declared.kinds.WordKind.{WordKind};
 ghost use Rattle.mw_term.specs.declared.kinds.WordKind.TheVariants.{Element};
@@ -13,7 +14,8 @@ ghost use Rattle.mw_symmem.specs.Words.{AreOf};
 ghost use Rattle.mw_rel.specs.Begin.{free_elements};
 ghost use Rattle.mw_rel.specs.Free.{is_free, numbered};
 ghost use Rattle.mw_rel.specs.Job.{Job as JobParts};
-ghost use Rattle.mw_rel.specs.Start.{Start};
+ghost use Rattle.mw_ready.specs.Thinned.{always_ready};
+ghost use Rattle.mw_rel.specs.SteadyStart.{Start};
 ghost use Rattle.mw_rel.specs.Views.{job_of};
 ghost use Rattle.mw_course.specs.Begins.{IsAssigned, IsChosen, value_or_zero};
 ghost use Rattle.mw_course.specs.Entries.{HasTaken, entry, is_outside};
@@ -96,7 +98,9 @@ fn free_values(
 fn put(env: &mut Env, series: Series, number: u32, value: u32) -> Result<(), NoMemory>
     requires some { value ≢ 0 }
     requires width { value < 2 ^ width_of 32 series }
-    ensures took { OnOk result (HasTaken env.old env.new (kind_of series number) value) }
+    ensures took { OnOk result
+        ((kind : WordKind) → series_of_kind kind ≡ Some (series, number) → HasTaken env.old env.new kind value) }
+    ensures wait { OnOk result (series ≢ Wait → env.new.wait ≡ env.old.wait) }
     ensures trimmed { OnOk result (IsTrimmed env.old → IsTrimmed env.new) }
 {
     let at = number as usize;
@@ -110,8 +114,9 @@ fn put(env: &mut Env, series: Series, number: u32, value: u32) -> Result<(), NoM
 /// The environment takes the value of a variable, where that is one of its own. A 0 is left out.
 fn take(env: &mut Env, kind: WordKind, value: u32) -> Result<(), NoMemory>
     requires fresh { entry env.old kind ≡ 0 }
-    requires width { (series : Series) (n : ℕ) → kind ≡ kind_of series n → value < 2 ^ width_of 32 series }
+    requires width { (series : SteadySeries) (n : ℕ) → kind ≡ kind_of series n → value < 2 ^ steady_width_of 32 series }
     ensures took { OnOk result (HasTaken env.old env.new kind value) }
+    ensures wait { OnOk result (env.new.wait ≡ env.old.wait) }
     ensures trimmed { OnOk result (IsTrimmed env.old → IsTrimmed env.new) }
 {
     if value == 0 {
@@ -133,11 +138,12 @@ fn take_word(
 ) -> Result<(), NoMemory>
     requires there { word.term < length space.now.terms.ops }
     requires fresh { (kind : WordKind) → word.kind ≡ Some kind → entry env.old kind ≡ 0 }
-    requires width { (series : Series) (n : ℕ) → word.kind ≡ Some (kind_of series n)
-        → term_value space.now.terms (given_by given.now) word.term < 2 ^ width_of 32 series }
+    requires width { (series : SteadySeries) (n : ℕ) → word.kind ≡ Some (kind_of series n)
+        → term_value space.now.terms (given_by given.now) word.term < 2 ^ steady_width_of 32 series }
     ensures took { OnOk result ((other : WordKind) → is_outside other ≡ true → entry env.new other
         ≡ (if is_of word.kind other then term_value space.now.terms (given_by given.now) word.term
         else entry env.old other)) }
+    ensures wait { OnOk result (env.new.wait ≡ env.old.wait) }
     ensures trimmed { OnOk result (IsTrimmed env.old → IsTrimmed env.new) }
 {
     match word.kind {
@@ -155,6 +161,7 @@ fn environment(alloc: Global, space: &Space, given: &Assignment) -> Result<Env, 
         × IsGround job number (ground_in space.now elements) }
     ensures entries { IfOk result (λ env. (kind : WordKind) → is_outside kind ≡ true → entry env kind
         ≡ value_or_zero space.now.terms (given_by given.now) (term_of space.now.words kind)) }
+    ensures wait { IfOk result (λ env. env.wait ≡ []) }
     ensures trimmed { IfOk result (λ env. IsTrimmed env) }
 {
     let mut env = Env::nothing(alloc);
@@ -165,7 +172,7 @@ fn environment(alloc: Global, space: &Space, given: &Assignment) -> Result<Env, 
 }
 
 /// What an assignment gives at a boundary: the values of the free elements' variables, an image that the base reads
-/// fit, and the environment with the values of its variables.
+/// fit, and the environment with the values of its variables, without waits.
 ///
 /// # Errors
 ///
@@ -182,7 +189,7 @@ pub fn begin_of(
         IsAssigned (job_of job.now) boundary (list_of_space space.now) (given_by given.now) begin) }
     ensures start { IfOk result
         (λ begin. (elements : List ℕ) → IsGround (job_of job.now) boundary (ground_in space.now elements)
-        → (start : Start) × IsChosen (job_of job.now) boundary begin start
+        → (start : Start) × IsChosen (job_of job.now) boundary begin (always_ready start)
         × StandsForStart (job_of job.now) boundary (ground_in space.now elements) (given_by given.now) start) }
 {
     let values = free_values(alloc, job, boundary, space, given)?;

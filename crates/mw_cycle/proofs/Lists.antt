@@ -1,5 +1,5 @@
 -- Environments list by list.
-use Rattle.std.proofs.Common.{◌≡◌, ◌≢◌, inl, inr, ℕ, zero, suc, ◌+◌, ◌-◌, ◌^◌, ◌<◌, ◌≤◌, Bool, true, false, cond}
+use Rattle.std.proofs.Common.{◌≡◌, ◌≢◌, ◌⊎◌, inl, inr, ℕ, zero, suc, ◌+◌, ◌-◌, ◌^◌, ◌<◌, ◌≤◌, Bool, true, false, cond}
 use Rattle.std.proofs.Common.{◌==◌, lit<, lit≤, List, [], ◌∷◌, ◌++◌, length, map, take, slice_index, append_assoc}
 use Rattle.std.proofs.Common.{append-nil, length-append, refl, sym, ap, ◌∙◌, subst, arith}
 use Rattle.std.specs.Prelude.{slice_index_or, slice_set}
@@ -11,13 +11,12 @@ use Rattle.mw_base.proofs.Carries.{num_below}
 use Rattle.mw_board.specs.declared.parts.BoardParts.{BoardParts}
 use Rattle.mw_cycle.specs.declared.environment.Clock.{Clock}
 use Rattle.mw_cycle.specs.declared.series.Series.{Series}
-use Rattle.mw_cycle.specs.declared.series.Series.TheVariants.{Inputs, Line, Noise}
+use Rattle.mw_cycle.specs.declared.series.Series.TheVariants.{Inputs, Line, Noise, Wait}
 use Rattle.mw_cycle.specs.Run.{further}
 use Rattle.mw_cycle.specs.Series.{width_of}
 use Rattle.mw_cycle.specs.Environment.{Environment, IsEnvironment, ListsAreAll, RestsAreEnvironments, RestsAreOfLists}
 use Rattle.mw_cycle.specs.Environment.{no_values, place_in, rest_at, values_of, with_lists, with_value, with_values}
 use Rattle.mw_cycle.specs.Trimmed.{ShortenedAreEnvironments, before_trimmed, shortened, trimmed}
-use Rattle.mw_cycle.proofs.Named.{same_or_other}
 
 -- ---- bits as numbers
 
@@ -126,20 +125,30 @@ trimmed_below bound (x ∷ xs) some each n = before_below bound x (trimmed xs) s
 
 -- ---- lists of environments
 
+-- a list is this one, or another
+pub same_or_other : (one other : Series) → (one ≡ other) ⊎ (one ≢ other)
+same_or_other Inputs Inputs = inl refl
+same_or_other Line Line = inl refl
+same_or_other Noise Noise = inl refl
+same_or_other Wait Wait = inl refl
+same_or_other one other = inr (λ is. absurd cc)
+
 -- a value of a list has at most the bits that it has where an input word has 32
 pub widths_within : (width : ℕ) (series : Series) → width ≤ 32 → width_of width series ≤ width_of 32 series
 widths_within width Inputs most = most
 widths_within width Line most = lit≤ tt
 widths_within width Noise most = lit≤ tt
+widths_within width Wait most = lit≤ tt
 
 -- which are 32 at most
 pub widths_most : (series : Series) → width_of 32 series ≤ 32
 widths_most Inputs = lit≤ tt
 widths_most Line = lit≤ tt
 widths_most Noise = lit≤ tt
+widths_most Wait = lit≤ tt
 
 pub lists_are_all : ListsAreAll
-lists_are_all env = rw (bits_back env.line) refl
+lists_are_all env = rw (bits_back env.line, bits_back env.wait) refl
 
 -- the lists of what is made of lists whose values have their widths
 pub lists_back : (values : Series → List ℕ) (width : ℕ) (series : Series)
@@ -148,18 +157,21 @@ pub lists_back : (values : Series → List ℕ) (width : ℕ) (series : Series)
 lists_back values width Inputs each = refl
 lists_back values width Line each = numbers_back (values Line) each
 lists_back values width Noise each = refl
+lists_back values width Wait each = numbers_back (values Wait) each
 
 pub rests_are_of_lists : RestsAreOfLists
 rests_are_of_lists env place Inputs = refl
-rests_are_of_lists env place Line = sym (drop-map num place.cycle env.line)
+rests_are_of_lists env place Line = sym (drop-map num place.clocks env.line)
 rests_are_of_lists env place Noise = refl
+rests_are_of_lists env place Wait = sym (drop-map num place.clocks env.wait)
 
 -- what is left of what is left
 pub rest_further : (env : Environment) (place by : Clock)
     → rest_at (rest_at env place) by ≡ rest_at env (further place by)
 rest_further env place by = rw (
-  drop-drop by.cycle place.cycle env.line,
-  drop-drop by.cycle place.cycle env.noise,
+  drop-drop by.clocks place.clocks env.line,
+  drop-drop by.clocks place.clocks env.noise,
+  drop-drop by.clocks place.clocks env.wait,
   drop-drop by.taken place.taken env.inputs,
 ) refl
 
@@ -196,52 +208,73 @@ bits_kept : (bits : List Bool) (kept : ℕ) → take kept (map num bits) ≡ tri
 bits_kept bits kept is =
     sym (bits_back (take kept bits)) ∙ ap (map (λ bit. bit == 1)) (sym (take-map num kept bits) ∙ is)
 
-abbrev pub environment_with : List Bool → (noise inputs : List ℕ) → Environment
-environment_with line noise inputs = record { line = line; noise = noise; inputs = inputs }
+abbrev pub environment_with : List Bool → (noise : List ℕ) → (wait : List Bool) → (inputs : List ℕ) → Environment
+environment_with line noise wait inputs = record { line = line; noise = noise; wait = wait; inputs = inputs }
 
 -- the fronts of lists that have all but the zeros at the ends
-pub fronts_are : (env : Environment) (line noise inputs : ℕ)
+pub fronts_are : (env : Environment) (line noise wait inputs : ℕ)
     → take line (values_of env Line) ≡ trimmed (values_of env Line)
     → take noise (values_of env Noise) ≡ trimmed (values_of env Noise)
+    → take wait (values_of env Wait) ≡ trimmed (values_of env Wait)
     → take inputs (values_of env Inputs) ≡ trimmed (values_of env Inputs)
-    → environment_with (take line env.line) (take noise env.noise) (take inputs env.inputs) ≡ shortened env
-fronts_are env line noise inputs one two three = rw (bits_kept env.line line one, two, three) refl
+    → environment_with (take line env.line) (take noise env.noise) (take wait env.wait) (take inputs env.inputs)
+    ≡ shortened env
+fronts_are env line noise wait inputs one two three four =
+    rw (bits_kept env.line line one, two, bits_kept env.wait wait three, four) refl
 
 -- ---- values behind those of a list
+
+bits_length : (bits : List Bool) (values : List ℕ)
+    → length (map num (bits ++ map (λ value. value == 1) values)) ≡ length (map num bits) + length values
+bits_length bits values =
+    length-map (bits ++ map (λ value. value == 1) values) num
+    ∙ length-append bits (map (λ value. value == 1) values)
+    ∙ ap (λ n. n + length (map (λ value. value == 1) values)) (sym (length-map bits num))
+    ∙ ap (λ n. length (map num bits) + n) (length-map values (λ value. value == 1))
+
+bits_again : (bits : List Bool) (first second : List ℕ)
+    → (bits ++ map (λ value. value == 1) first) ++ map (λ value. value == 1) second
+    ≡ bits ++ map (λ value. value == 1) (first ++ second)
+bits_again bits first second =
+    append_assoc bits (map (λ value. value == 1) first) (map (λ value. value == 1) second)
+    ∙ ap (λ xs. bits ++ xs) (sym (map-append (λ value. value == 1) first second))
+
+bits_behind : (bits : List Bool) (value : ℕ) → value < 2
+    → map num (bits ++ (value == 1) ∷ []) ≡ map num bits ++ value ∷ []
+bits_behind bits value small =
+    map-append num bits ((value == 1) ∷ []) ∙ ap (λ v. map num bits ++ v ∷ []) (num_below value small)
 
 pub behind_length : (series : Series) (values : List ℕ) (env : Environment)
     → length (values_of (with_values series values env) series) ≡ length (values_of env series) + length values
 behind_length Inputs values env = length-append env.inputs values
-behind_length Line values env =
-    length-map (env.line ++ map (λ value. value == 1) values) num
-    ∙ length-append env.line (map (λ value. value == 1) values)
-    ∙ ap (λ n. n + length (map (λ value. value == 1) values)) (sym (length-map env.line num))
-    ∙ ap (λ n. length (map num env.line) + n) (length-map values (λ value. value == 1))
+behind_length Line values env = bits_length env.line values
 behind_length Noise values env = length-append env.noise values
+behind_length Wait values env = bits_length env.wait values
 
 pub behind_again : (series : Series) (first second : List ℕ) (env : Environment)
     → with_values series second (with_values series first env) ≡ with_values series (first ++ second) env
 behind_again Inputs first second env =
     ap (λ xs. let made : Environment = record env { inputs = xs } in made) (append_assoc env.inputs first second)
 behind_again Line first second env =
-    ap (λ xs. let made : Environment = record env { line = xs } in made)
-    (append_assoc env.line (map (λ value. value == 1) first) (map (λ value. value == 1) second)
-    ∙ ap (λ xs. env.line ++ xs) (sym (map-append (λ value. value == 1) first second)))
+    ap (λ xs. let made : Environment = record env { line = xs } in made) (bits_again env.line first second)
 behind_again Noise first second env =
     ap (λ xs. let made : Environment = record env { noise = xs } in made) (append_assoc env.noise first second)
+behind_again Wait first second env =
+    ap (λ xs. let made : Environment = record env { wait = xs } in made) (bits_again env.wait first second)
 
 pub none_behind : (series : Series) (env : Environment) → with_values series [] env ≡ env
 none_behind Inputs env = rw (append-nil env.inputs) refl
 none_behind Line env = rw (append-nil env.line) refl
 none_behind Noise env = rw (append-nil env.noise) refl
+none_behind Wait env = rw (append-nil env.wait) refl
 
 -- a value behind those of a list
 pub own_behind : (series : Series) (width value : ℕ) (env : Environment) → value < 2 ^ width_of width series
     → values_of (with_values series (value ∷ []) env) series ≡ values_of env series ++ value ∷ []
 own_behind Inputs width value env small = refl
-own_behind Line width value env small =
-    map-append num env.line ((value == 1) ∷ []) ∙ ap (λ v. map num env.line ++ v ∷ []) (num_below value small)
+own_behind Line width value env small = bits_behind env.line value small
 own_behind Noise width value env small = refl
+own_behind Wait width value env small = bits_behind env.wait value small
 
 -- the other lists stay
 pub other_behind : (series other : Series) (values : List ℕ) (env : Environment) → other ≢ series
@@ -249,22 +282,29 @@ pub other_behind : (series other : Series) (values : List ℕ) (env : Environmen
 other_behind Inputs Inputs values env differs = absurd (differs refl)
 other_behind Line Line values env differs = absurd (differs refl)
 other_behind Noise Noise values env differs = absurd (differs refl)
+other_behind Wait Wait values env differs = absurd (differs refl)
 other_behind series other values env differs = refl
 
 -- ---- another value in a list
 
+bits_set : (bits : List Bool) (number value : ℕ) → value < 2
+    → map num (slice_set bits number (value == 1)) ≡ slice_set (map num bits) number value
+bits_set bits number value small =
+    map-set num bits number (value == 1) ∙ ap (slice_set (map num bits) number) (num_below value small)
+
 pub own_set : (series : Series) (width number value : ℕ) (env : Environment) → value < 2 ^ width_of width series
     → values_of (with_value series number value env) series ≡ slice_set (values_of env series) number value
 own_set Inputs width number value env small = refl
-own_set Line width number value env small =
-    map-set num env.line number (value == 1) ∙ ap (slice_set (map num env.line) number) (num_below value small)
+own_set Line width number value env small = bits_set env.line number value small
 own_set Noise width number value env small = refl
+own_set Wait width number value env small = bits_set env.wait number value small
 
 pub other_set : (series other : Series) (number value : ℕ) (env : Environment) → other ≢ series
     → values_of (with_value series number value env) other ≡ values_of env other
 other_set Inputs Inputs number value env differs = absurd (differs refl)
 other_set Line Line number value env differs = absurd (differs refl)
 other_set Noise Noise number value env differs = absurd (differs refl)
+other_set Wait Wait number value env differs = absurd (differs refl)
 other_set series other number value env differs = refl
 
 -- ---- environments stay such

@@ -1,12 +1,14 @@
 -- The variables that stand for the values of an environment.
-use Rattle.std.proofs.Common.{◌≡◌, ◌≢◌, ◌⊎◌, inl, inr, ℕ, true, false, refl, sym, ap, subst, ◌∙◌}
+use Rattle.std.proofs.Common.{◌≡◌, ◌≢◌, ◌⊎◌, inl, inr, ℕ, ◌<◌, ◌^◌, true, false, refl, sym, ap, subst, ◌∙◌}
 use Rattle.std.specs.Prelude.{Some, None}
 use Rattle.std.proofs.lemmas.Option.{same_Some}
 use Rattle.mw_term.specs.declared.kinds.WordKind.{WordKind}
 use Rattle.mw_term.specs.declared.kinds.WordKind.TheVariants as kinds
-use Rattle.mw_cycle.specs.declared.series.Series.{Series}
-use Rattle.mw_cycle.specs.declared.series.Series.TheVariants.{Inputs, Line, Noise}
-use Rattle.mw_cycle.specs.Series.{goes_by_cycle, kind_of, series_of_kind}
+use Rattle.mw_cycle.specs.declared.series.Series.{Series as AnySeries}
+use Rattle.mw_cycle.specs.declared.series.Series.TheVariants as all
+use Rattle.mw_cycle.specs.Series.{series_of_kind as any_series_of_kind, width_of as any_width}
+use Rattle.mw_cycle.specs.SteadySeries.{Series, Inputs, Line, Noise, among_all, goes_by_cycle, kind_of, series_of_kind}
+use Rattle.mw_cycle.specs.SteadySeries.{width_of as steady_width}
 
 -- the variable of a list's value stands for this value
 pub series_of_kind_back : (series : Series) (n : ℕ) → series_of_kind (kind_of series n) ≡ Some (series, n)
@@ -61,3 +63,44 @@ no_input series n m by is =
 pub no_kind : (K : WordKind → Type 0) → ((kind : WordKind) → K kind → series_of_kind kind ≡ None) → (series : Series)
     (n : ℕ) → ¬ K (kind_of series n)
 no_kind K outside series n is = no_variable (kind_of series n) series n (outside (kind_of series n) is) refl
+
+-- ---- among all lists
+
+-- the variable of a list's value stands for this value
+pub any_series_back : (series : Series) (n : ℕ) → any_series_of_kind (kind_of series n) ≡ Some (among_all series, n)
+any_series_back Inputs n = refl
+any_series_back Line n = refl
+any_series_back Noise n = refl
+
+-- a list's value that has a variable is one of a list without waits
+pub any_named : (kind : WordKind) (named : AnySeries × ℕ) → any_series_of_kind kind ≡ Some named
+    → (series : Series) × (named.0 ≡ among_all series) × (kind ≡ kind_of series named.1)
+any_named (kinds.Input m) named is =
+    let same = same_Some (all.Inputs, m) named is in
+    (Inputs, sym (ap (λ (v : AnySeries × ℕ). v.0) same), ap (λ (v : AnySeries × ℕ). kind_of Inputs v.1) same)
+any_named (kinds.Line m) named is =
+    let same = same_Some (all.Line, m) named is in
+    (Line, sym (ap (λ (v : AnySeries × ℕ). v.0) same), ap (λ (v : AnySeries × ℕ). kind_of Line v.1) same)
+any_named (kinds.Noise m) named is =
+    let same = same_Some (all.Noise, m) named is in
+    (Noise, sym (ap (λ (v : AnySeries × ℕ). v.0) same), ap (λ (v : AnySeries × ℕ). kind_of Noise v.1) same)
+any_named kind named is = absurd cc
+
+-- lists are among all as many
+pub apart_among : (one other : Series) → one ≢ other → among_all one ≢ among_all other
+apart_among Inputs Inputs differs = absurd (differs refl)
+apart_among Line Line differs = absurd (differs refl)
+apart_among Noise Noise differs = absurd (differs refl)
+apart_among one other differs = λ is. absurd cc
+
+-- with as wide values
+same_width : (series : Series) → steady_width 32 series ≡ any_width 32 (among_all series)
+same_width Inputs = refl
+same_width Line = refl
+same_width Noise = refl
+
+pub width_among : (series : Series) (any : AnySeries) (value : ℕ) → any ≡ among_all series
+    → value < 2 ^ steady_width 32 series → value < 2 ^ any_width 32 any
+width_among series any value is small =
+    subst (λ (s : AnySeries). value < 2 ^ any_width 32 s) (sym is)
+    (subst (λ w. value < 2 ^ w) (same_width series) small)

@@ -8,8 +8,8 @@ use Rattle.mw_board.specs.Depth.{depth_of}
 use Rattle.mw_cycle.specs.Microword.{points_of}
 use Rattle.mw_cycle.specs.Cycle.{from_source, early_bit, bit_value, operands_of, answer_of, pass_of, direct_address}
 use Rattle.mw_cycle.specs.Cycle.{next_address, pins_of, writes_of, flips_from, edge, state_after, nets_of}
-use Rattle.mw_cycle.specs.Run.{longer_run, run_of}
-use Rattle.mw_cycle.specs.Boundary.{first_segment}
+use Rattle.mw_cycle.specs.SteadyRun.{longer_run, run_of}
+use Rattle.mw_cycle.specs.SteadyBoundary.{first_segment}
 
 unfoldable pub cycle_on_literals : ⊤
 unfolding depth_of from_source early_bit bit_value flips_from source_of function_of destination_of f_of carry_of

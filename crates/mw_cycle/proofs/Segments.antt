@@ -1,24 +1,11 @@
 -- Segments of a run, cycle by cycle.
 use Rattle.std.proofs.Common.{◌≡◌, ℕ, suc, ◌+◌, ◌-◌, ◌<◌, ◌≤◌, List, Bool, true, false, cond, find, Some, None}
-use Rattle.std.proofs.Common.{option_map, refl, ap, sym, ◌∙◌, add-one, arith}
+use Rattle.std.proofs.Common.{option_map, refl, ap, sym, ◌∙◌, arith}
 use Rattle.mw_board.specs.declared.parts.BoardParts.{BoardParts}
 use Rattle.mw_cycle.specs.State.{BoardState}
 use Rattle.mw_cycle.specs.Environment.{Environment}
-use Rattle.mw_cycle.specs.Run.{BoardRun, longer_run, run_of}
+use Rattle.mw_cycle.specs.Run.{BoardRun, run_of}
 use Rattle.mw_cycle.specs.Boundary.{is_named, numbers, first_boundary, first_segment}
-
--- a run of one cycle more
-pub run_more : (board : BoardParts) (store : List ℕ) (env : Environment) (start : BoardState) (n : ℕ)
-    → longer_run board store env (run_of board store env start n) ≡ run_of board store env start (n + 1)
-unfolding run_of
-run_more board store env start n = rw add-one refl
-
--- a run of i cycles, and one cycle more
-longer_by : (board : BoardParts) (store : List ℕ) (env : Environment) (start : BoardState) (i : ℕ)
-    (before run : BoardRun) → before ≡ run_of board store env start i
-    → run ≡ longer_run board store env before → run ≡ run_of board store env start (i + 1)
-longer_by board store env start i before run was longer =
-    longer ∙ ap (longer_run board store env) was ∙ run_more board store env start i
 
 -- before the first cycle each number is left
 pub find_first : (test : ℕ → Bool) (limit : ℕ) → find test (numbers 1 limit) ≡ find test (numbers (0 + 1) (limit - 0))
@@ -45,14 +32,13 @@ at board store env start n = (run_of board store env start n).state.at
 
 -- a run that no boundary ended before, and that stands at one now, is the first segment
 pub reached : (board : BoardParts) (store : List ℕ) (env : Environment) (start : BoardState) (addresses : List ℕ)
-    (limit i : ℕ) (before run : BoardRun)
+    (limit i : ℕ) (run : BoardRun)
     → first_boundary addresses (at board store env start) limit
     ≡ find (λ n. is_named addresses (at board store env start n)) (numbers (i + 1) (limit - i))
-    → i < limit → before ≡ run_of board store env start i → run ≡ longer_run board store env before
+    → i < limit → run ≡ run_of board store env start (i + 1)
     → is_named addresses run.state.at ≡ true → first_segment board store env start addresses limit ≡ Some run
 unfolding first_segment
-reached board store env start addresses limit i before run rest more was longer named =
-    let is = longer_by board store env start i before run was longer in
+reached board store env start addresses limit i run rest more is named =
     let here : is_named addresses (at board store env start (i + 1)) ≡ true = rw is at named in
     let found : first_boundary addresses (at board store env start) limit ≡ Some (i + 1) =
     rest ∙ find_next _ i limit more ∙ rw here refl in
@@ -60,14 +46,13 @@ reached board store env start addresses limit i before run rest more was longer 
 
 -- a run that goes on: no boundary ended it so far
 pub gone_on : (board : BoardParts) (store : List ℕ) (env : Environment) (start : BoardState) (addresses : List ℕ)
-    (limit i : ℕ) (before run : BoardRun)
+    (limit i : ℕ) (run : BoardRun)
     → first_boundary addresses (at board store env start) limit
     ≡ find (λ n. is_named addresses (at board store env start n)) (numbers (i + 1) (limit - i))
-    → i < limit → before ≡ run_of board store env start i → run ≡ longer_run board store env before
+    → i < limit → run ≡ run_of board store env start (i + 1)
     → is_named addresses run.state.at ≡ false → first_boundary addresses (at board store env start) limit
     ≡ find (λ n. is_named addresses (at board store env start n)) (numbers (i + 1 + 1) (limit - (i + 1)))
-gone_on board store env start addresses limit i before run rest more was longer other =
-    let is = longer_by board store env start i before run was longer in
+gone_on board store env start addresses limit i run rest more is other =
     let here : is_named addresses (at board store env start (i + 1)) ≡ false = rw is at other in
     rest ∙ find_next _ i limit more ∙ rw here refl
 

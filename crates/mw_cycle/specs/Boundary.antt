@@ -1,4 +1,5 @@
--- The boundaries at which a run is compared, as control addresses, and the times at which it reaches them.
+-- The boundaries at which a run is compared, as control addresses, and the times at which it reaches them, counted in
+-- cycles. A wait belongs to the segment of the cycle that it stretches.
 use Rattle.std.specs.Prelude.{◌≡◌, ℕ, zero, suc, ◌+◌, ◌<◌, List, [], ◌∷◌, Bool, true, false, ◌==◌, ◌≤◌, Option, Some}
 use Rattle.std.specs.Prelude.{None, find, option_map}
 use Rattle.std.specs.List.{list_any}
@@ -31,7 +32,7 @@ numbers from (suc count) = from ∷ numbers (from + 1) count
 abbrev pub first_boundary : List ℕ → (ℕ → ℕ) → ℕ → Option ℕ
 first_boundary addresses at limit = find (λ n. is_named addresses (at n)) (numbers 1 limit)
 
--- the first segment of a run, where it keeps its bound; nothing where it is late
+-- the first segment of a run, where it keeps its bound, in which waits aren't counted; nothing where it is late
 unfoldable pub first_segment : BoardParts → List ℕ → Environment → BoardState → List ℕ → ℕ → Option BoardRun
 first_segment board store env start addresses limit =
     option_map (run_of board store env start)

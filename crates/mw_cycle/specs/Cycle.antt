@@ -1,7 +1,7 @@
 -- One cycle of a board (Mick and Brick: one pipeline register), in the seven points of its order. All that is read is
 -- read before the edge.
 use Rattle.std.specs.Prelude.{ℕ, ◌+◌, ◌-◌, ◌*◌, ◌%◌, ◌^◌, List, [], ◌∷◌, Bool, true, false, not, if◌then◌else◌}
-use Rattle.std.specs.Prelude.{◌||◌, slice_get, slice_index, slice_set, bit_and, Option, Some, None}
+use Rattle.std.specs.Prelude.{◌||◌, ◌&&◌, slice_get, slice_index, slice_set, bit_and, Option, Some, None}
 use Rattle.mw_base.specs.Words.{bit_of, differ, num, part}
 use Rattle.mw_base.specs.declared.event.Event.{Event}
 use Rattle.mw_base.specs.declared.event.Event.TheVariants.{Out, Taken}
@@ -214,3 +214,18 @@ nets_of board store s given =
       next = next_address board m pass s given;
       event = event_of m answer.y given;
     }
+
+-- ---- clocks that wait
+
+-- the source is the memory
+abbrev pub is_memory : DFrom → Bool
+is_memory sources.Memory = true
+is_memory other = false
+
+-- a microword uses memory: its D source is the memory, or it writes there
+abbrev pub uses_memory : Microword → Bool
+uses_memory m = is_memory m.d.from || m.memory_write
+
+-- a clock in a state is a wait: its wait bit is 1, and the word there uses memory
+abbrev pub waits_in : BoardParts → List ℕ → BoardState → (wait : Bool) → Bool
+waits_in board store state wait = wait && uses_memory (microword_at board store state)

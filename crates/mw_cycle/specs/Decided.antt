@@ -1,6 +1,5 @@
--- The decided bits of a cycle: what a run has to know of it to go on, with their values in a cycle of a state; and
--- those of the cycles of a run.
-use Rattle.std.specs.Prelude.{◌≡◌, ℕ, zero, ◌+◌, suc, List, [], ◌∷◌, ◌++◌, Bool, not, ◌&&◌, ◌==◌, if◌then◌else◌}
+-- The decided bits of a cycle: what a run has to know of it to go on, with their values in a cycle of a state.
+use Rattle.std.specs.Prelude.{ℕ, zero, suc, List, [], ◌∷◌, ◌++◌, Bool, not, ◌&&◌, ◌==◌, if◌then◌else◌}
 use Rattle.std.specs.List.{list_any}
 use Rattle.mw_base.specs.Words.{bit_of}
 use Rattle.mw_board.specs.declared.parts.BoardParts.{BoardParts}
@@ -10,8 +9,6 @@ use Rattle.mw_term.specs.declared.decided.Decided.{Decided}
 use Rattle.mw_cycle.specs.declared.microword.Microword.{Microword}
 use Rattle.mw_cycle.specs.declared.state.CycleIn.{CycleIn}
 use Rattle.mw_cycle.specs.Cycle.{microword_at, answer_of, pass_of, next_address}
-use Rattle.mw_cycle.specs.Environment.{Environment, given_at, rest_at}
-use Rattle.mw_cycle.specs.Run.{run_of}
 use Rattle.mw_cycle.specs.State.{BoardState}
 
 -- a bit that says this, with this value
@@ -50,25 +47,3 @@ decided_of board store s given =
     let m = microword_at board store s in
     let pass = pass_of board m (answer_of board m s given) s given in
     pass_bits m pass ++ counter_bits m s ++ address_bits (next_address board m pass s given) 12
-
--- ---- along a run
-
--- the decided bits of the cycle with this number, from 0, of a run from a state
-abbrev pub bits_of_cycle : BoardParts → List ℕ → Environment → BoardState → ℕ → List Decided
-bits_of_cycle board store env start n =
-    let run = run_of board store env start n in
-    decided_of board store run.state (given_at env run.clock)
-
--- the decided bits of the first n cycles of a run from a state, cycle after cycle
-unfoldable pub bits_of_cycles : BoardParts → List ℕ → Environment → BoardState → ℕ → List Decided
-bits_of_cycles board store env start zero = []
-bits_of_cycles board store env start (suc n) =
-    bits_of_cycles board store env start n ++ bits_of_cycle board store env start n
-
--- The decided bits of n + m cycles are those of n, and then those of m from the state that these reached, over what is
--- left of the environment at the place that they reached.
-abbrev pub BitsGoOn : Type 0
-BitsGoOn = (board : BoardParts) (store : List ℕ) (env : Environment) (start : BoardState) (n m : ℕ)
-    → let first = run_of board store env start n in
-    bits_of_cycles board store env start (n + m)
-    ≡ bits_of_cycles board store env start n ++ bits_of_cycles board store (rest_at env first.clock) first.state m

@@ -8,7 +8,14 @@ pub mod Trimmed
 pub mod Cycle
 pub mod Run
 pub mod Boundary
+pub mod SteadySeries
+pub mod SteadyEnvironment
+pub mod SteadyRun
+pub mod SteadyBoundary
+pub mod Thinned
+pub mod RunLaws
 pub mod Decided
+pub mod SteadyDecided
 pub mod BoardTerms
 pub mod ReadingWords
 pub mod LeavingWords

@@ -1,7 +1,7 @@
-// The outside of a run: the interrupt line, the undefined bits and the input words.
-ghost use Rattle.std.specs.Prelude.{◌≡◌, ◌∷◌, [], ◌<◌, ◌≤◌, ◌^◌, IfOk, OnOk, length};
+// The outside of a run: the interrupt line, the undefined bits, the wait bits and the input words.
+ghost use Rattle.std.specs.Prelude.{◌≡◌, ◌∷◌, [], ◌<◌, ◌≤◌, ◌^◌, IfOk, OnOk, length, true};
 ghost use Rattle.std.specs.Prelude.{slice_index, slice_index_or, take};
-ghost use Rattle.mw_cycle.specs.Environment.{Environment, given_at, no_values, values_of};
+ghost use Rattle.mw_cycle.specs.Environment.{Environment, given_at, no_values, values_of, wait_bit};
 ghost use Rattle.mw_cycle.specs.Trimmed.{shortened, trimmed};
 ghost use Rattle.mw_cycle.specs.Environment.{with_value, with_values};
 ghost use Rattle.mw_cycle.specs.Series.{width_of};
@@ -19,16 +19,42 @@ pub struct Clock {
     pub cycle: u64,
     /// How many input words were taken.
     pub taken: u64,
+    /// How many clocks there were: the cycles, and the waits.
+    pub clocks: u64,
 }
 
 impl Clock {
     ghost use Rattle.std.specs.Prelude.{◌+◌};
-    ghost use Rattle.mw_cycle.specs.Run.{clock_after};
+    ghost use Rattle.mw_cycle.specs.Environment.{at_start};
+    ghost use Rattle.mw_cycle.specs.Run.{clock_after, waited};
+
+    /// The place before the first clock.
+    pub fn start() -> Clock
+        ensures { result ≡ at_start }
+    {
+        Clock {
+            cycle: 0,
+            taken: 0,
+            clocks: 0,
+        }
+    }
+
+    /// The place after a wait.
+    pub fn after_wait(self) -> Clock
+        requires { self.clocks + 1 < 2 ^ 64 }
+        ensures { result ≡ waited self }
+    {
+        Clock {
+            clocks: self.clocks + 1,
+            ..self
+        }
+    }
 
     /// The place after a cycle with this event, if any.
     pub fn after(self, event: Option<Event>) -> Clock
         requires cycle { self.cycle + 1 < 2 ^ 64 }
         requires taken { self.taken + 1 < 2 ^ 64 }
+        requires clocks { self.clocks + 1 < 2 ^ 64 }
         ensures { result ≡ clock_after event self }
     {
         let taken = match event {
@@ -38,6 +64,7 @@ impl Clock {
         Clock {
             cycle: self.cycle + 1,
             taken,
+            clocks: self.clocks + 1,
         }
     }
 }
@@ -45,10 +72,12 @@ impl Clock {
 /// An environment: what isn't in a list is 0.
 #[derive(Debug, Drop)]
 pub struct Env {
-    /// The interrupt line, by cycle.
+    /// The interrupt line, by clock.
     pub line: Vec<bool>,
-    /// The undefined bits, by cycle, 14 bits each.
+    /// The undefined bits, by clock, 14 bits each.
     pub noise: Vec<u16>,
+    /// The wait bits, by clock: at 1, memory isn't ready in it.
+    pub wait: Vec<bool>,
     /// The input words, by their number.
     pub inputs: Vec<u32>,
 }
@@ -58,7 +87,12 @@ impl Model for Env {
 
     ghost Value = { Environment };
 
-    ghost view = { λ e. record { line = e.line.items; noise = e.noise.items; inputs = e.inputs.items } };
+    ghost view = { λ e. record {
+      line = e.line.items;
+      noise = e.noise.items;
+      wait = e.wait.items;
+      inputs = e.inputs.items;
+    } };
 }
 
 fn item_or<T: Copy>(items: &[T], place: u64, other: T) -> T
@@ -71,15 +105,23 @@ fn item_or<T: Copy>(items: &[T], place: u64, other: T) -> T
 }
 
 impl Env {
-    /// What a run that came so far is given for its next cycle.
+    /// What a run that came so far is given for its next clock.
     pub fn given(&self, clock: Clock) -> CycleIn
         ensures { result ≡ given_at self.now clock }
     {
         CycleIn {
-            noise: item_or(&self.noise, clock.cycle, 0),
-            line: item_or(&self.line, clock.cycle, false),
+            noise: item_or(&self.noise, clock.clocks, 0),
+            line: item_or(&self.line, clock.clocks, false),
             input: item_or(&self.inputs, clock.taken, 0),
         }
+    }
+
+    /// The wait bit of the next clock of a run that came so far. It is 0 from clock 2^63 on, since no list is so long.
+    pub fn waits(&self, clock: Clock) -> bool
+        ensures exact { result ≡ wait_bit self.now clock }
+        ensures early { result ≡ true → clock.clocks < 2 ^ 63 }
+    {
+        item_or(&self.wait, clock.clocks, false)
     }
 
     /// One that has nothing but 0.
@@ -89,6 +131,7 @@ impl Env {
         Env {
             line: Vec::new(alloc),
             noise: Vec::new(alloc),
+            wait: Vec::new(alloc),
             inputs: Vec::new(alloc),
         }
     }
@@ -104,6 +147,7 @@ impl Env {
         Ok(Env {
             line: Vec::from_slice(alloc, &self.line)?,
             noise: Vec::from_slice(alloc, &self.noise)?,
+            wait: Vec::from_slice(alloc, &self.wait)?,
             inputs: Vec::from_slice(alloc, &self.inputs)?,
         })
     }
@@ -116,6 +160,7 @@ impl Env {
             Series::Inputs => self.inputs.len(),
             Series::Line => self.line.len(),
             Series::Noise => self.noise.len(),
+            Series::Wait => self.wait.len(),
         }
     }
 
@@ -127,6 +172,7 @@ impl Env {
             Series::Inputs => item_or(&self.inputs, number as u64, 0),
             Series::Line => u32::from(item_or(&self.line, number as u64, false)),
             Series::Noise => u32::from(item_or(&self.noise, number as u64, 0)),
+            Series::Wait => u32::from(item_or(&self.wait, number as u64, false)),
         }
     }
 
@@ -155,6 +201,7 @@ impl Env {
             Series::Inputs => self.inputs.push(value)?,
             Series::Line => self.line.push(value == 1)?,
             Series::Noise => self.noise.push(value as u16)?,
+            Series::Wait => self.wait.push(value == 1)?,
         }
         Ok(())
     }
@@ -169,6 +216,7 @@ impl Env {
             Series::Inputs => self.inputs[number] = value,
             Series::Line => self.line[number] = value == 1,
             Series::Noise => self.noise[number] = value as u16,
+            Series::Wait => self.wait[number] = value == 1,
         }
     }
 
@@ -179,8 +227,10 @@ impl Env {
         let inputs = self.kept(Series::Inputs);
         let line = self.kept(Series::Line);
         let noise = self.kept(Series::Noise);
+        let wait = self.kept(Series::Wait);
         self.inputs.truncate(inputs);
         self.line.truncate(line);
         self.noise.truncate(noise);
+        self.wait.truncate(wait);
     }
 }

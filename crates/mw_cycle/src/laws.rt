@@ -1,7 +1,6 @@
-// Laws of runs, of their decided bits, of their boundaries and of their environments.
-ghost use Rattle.mw_cycle.specs.Decided.{BitsGoOn};
+// Laws of decided bits, of boundaries and of environments.
+ghost use Rattle.mw_cycle.specs.SteadyDecided.{BitsGoOn};
 ghost use Rattle.mw_cycle.specs.Environment.{ListsAreAll, RestsAreEnvironments, RestsAreOfLists};
-ghost use Rattle.mw_cycle.specs.Run.{RunsGoOn};
 ghost use Rattle.mw_cycle.specs.Trimmed.{ShortenedAreEnvironments};
 ghost use Rattle.mw_cycle.specs.Boundary.{BoundariesGoOn, SegmentsEndAtBoundaries};
 
@@ -11,14 +10,8 @@ pub fn segments_end_at_boundaries()
     ensures { SegmentsEndAtBoundaries }
 {}
 
-/// The law of suffixes: a run of n + m cycles is a run of n, and then of m from the state that it reached, over what is
-/// left of the environment at the place that it reached.
-pub fn runs_go_on()
-    ensures { RunsGoOn }
-{}
-
-/// The law of decided bits: those of n + m cycles of a run are those of its first n, and then those of the m
-/// that follow.
+/// The law of decided bits: those of n + m cycles of a run that never waits are those of its first n, and then those
+/// of the m that follow.
 pub fn bits_go_on()
     ensures { BitsGoOn }
 {}

@@ -1,4 +1,5 @@
-//! One cycle of a board. Its definitions and laws are of runs too, from boundary to boundary.
+//! One clock of a board: a cycle, or a wait for memory that isn't ready. Its definitions and laws are also of runs, from
+//! boundary to boundary; and of runs that never wait, as which each run goes without its waits.
 #![tactic(auto)]
 
 mod bits;
@@ -10,7 +11,9 @@ mod environment;
 mod flipflops;
 mod laws;
 mod microword;
+mod one_clock;
 mod one_cycle;
+mod runs;
 mod series;
 mod state;
 
@@ -19,9 +22,14 @@ pub use elements::{Element, element_of};
 pub use environment::{Clock, Env};
 pub use laws::{
     bits_go_on, boundaries_go_on, lists_are_all, rests_are_environments, rests_are_of_lists,
-    runs_go_on, segments_end_at_boundaries, shortened_are_environments,
+    segments_end_at_boundaries, shortened_are_environments,
 };
 pub use microword::Microword;
+pub use one_clock::{clock, is_wait};
 pub use one_cycle::cycle;
+pub use runs::{
+    clocks_are_bounded, clocks_are_cycles, clocks_are_one, clocks_go_on, cycles_come,
+    nothing_is_thinned, rests_are_thinned, runs_are_thinned, runs_go_on,
+};
 pub use series::Series;
 pub use state::{CycleIn, Nets, State};

@@ -2,7 +2,7 @@
 ghost use Rattle.std.specs.Prelude.{◌≡◌, ◌<◌, ◌%◌, ◌^◌, length, slice_get};
 ghost use Rattle.mw_board.specs.Valid.{IsFlipFlop, IsLoad, IsPoint};
 ghost use Rattle.mw_cycle.specs.Control.{in_field, value_at};
-ghost use Rattle.mw_cycle.specs.Cycle.{load_of};
+ghost use Rattle.mw_cycle.specs.Cycle.{load_of, uses_memory};
 ghost use Rattle.mw_cycle.specs.Microword.{instruction_of, points_of, IsMicroword};
 
 use crate::control::{chosen, in_field, is_on, low_bits, point, value_at};
@@ -79,6 +79,13 @@ fn four_bits(board: &Board, word: u128, control: Control) -> u8
 }
 
 impl Microword {
+    /// Whether it uses memory: its D source is the memory, whether D is read or not, or it writes there.
+    pub fn uses_memory(&self) -> bool
+        ensures { result ≡ uses_memory self.now }
+    {
+        matches!(self.d.from, DFrom::Memory) || self.memory_write
+    }
+
     /// What the microword has at each control point of the board.
     #[tactic(auto, unfolding(crate::specs::Microword::points_of))]
     pub fn decoded(board: &Board, word: u128) -> Microword

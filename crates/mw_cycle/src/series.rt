@@ -9,14 +9,16 @@ use mw_term::WordKind;
 pub enum Series {
     /// The input words, by their number.
     Inputs,
-    /// The interrupt line, by cycle.
+    /// The interrupt line, by clock.
     Line,
-    /// The undefined bits, by cycle.
+    /// The undefined bits, by clock.
     Noise,
+    /// The wait bits, by clock.
+    Wait,
 }
 
 /// All lists, in the order of texts.
-const ALL: [Series; 3] = [Series::Inputs, Series::Line, Series::Noise];
+const ALL: [Series; 4] = [Series::Inputs, Series::Line, Series::Noise, Series::Wait];
 
 impl Series {
     /// All lists, in the order of texts.
@@ -34,6 +36,7 @@ impl Series {
             Series::Inputs => b"inputs",
             Series::Line => b"line",
             Series::Noise => b"noise",
+            Series::Wait => b"wait",
         }
     }
 
@@ -45,7 +48,7 @@ impl Series {
     {
         match self {
             Series::Inputs => input,
-            Series::Line => 1,
+            Series::Line | Series::Wait => 1,
             Series::Noise => 14,
         }
     }
@@ -58,7 +61,8 @@ impl Series {
         ALL.iter().copied().find(|series| name == series.keyword())
     }
 
-    /// The list and the number of the value that a variable stands for, where it is one of an environment.
+    /// The list and the number of the value that a variable stands for, where it is one of an environment. A wait bit
+    /// has none.
     pub fn of_kind(kind: WordKind) -> Option<(Series, u32)>
         ensures { result ≡ series_of_kind kind }
     {

@@ -1,27 +1,28 @@
 -- What is kept of a moment gives it back.
-use Rattle.std.proofs.Common.{◌≡◌, ℕ, suc, ◌+◌, ◌≤◌, ◌<◌, ◌^◌, List, [], ◌∷◌, ◌++◌, All, length, subst, reverse}
-use Rattle.std.proofs.Common.{slice_index, slice_set, Bool, true, false, cond, nat_lt, Option, Some, None, refl, sym}
+use Rattle.std.proofs.Common.{◌≡◌, ℕ, suc, ◌+◌, ◌≤◌, ◌<◌, ◌^◌, List, [], ◌∷◌, ◌++◌, All, length, subst}
+use Rattle.std.proofs.Common.{reverse, slice_index, slice_set, Bool, true, false, cond, nat_lt, refl, sym}
 use Rattle.std.proofs.Common.{ap, ◌∙◌, arith}
-use Rattle.std.proofs.lemmas.List.{length-reverse, reverse-append, set-get_or, set-set}
+use Rattle.std.proofs.lemmas.List.{length-append, length-reverse, reverse-append, set-get_or, set-set}
 use Rattle.std.proofs.lemmas.List.Elements.{All-nil}
-use Rattle.mw_base.specs.declared.event.Event.{Event}
-use Rattle.mw_base.specs.declared.event.Event.TheVariants.{Out, Taken}
 use Rattle.mw_board.specs.declared.parts.BoardParts.{BoardParts}
 use Rattle.mw_board.specs.Elements.{element_count}
 use Rattle.mw_cycle.specs.declared.elements.Element.{Element}
 use Rattle.mw_cycle.specs.declared.elements.Element.TheVariants.{Register, Q, Mar, Ir, FlipFlop, Pc, R, StackWord}
 use Rattle.mw_cycle.specs.declared.environment.Clock.{Clock}
-use Rattle.mw_cycle.specs.declared.state.CycleIn.{CycleIn}
 use Rattle.mw_cycle.specs.Cycle.{state_after, edge}
 use Rattle.mw_cycle.specs.Elements.{element_of, with_element, with_value}
-use Rattle.mw_cycle.specs.Run.{clock_after}
+use Rattle.mw_cycle.specs.Environment.{Environment}
+use Rattle.mw_cycle.specs.Run.{BoardRun}
 use Rattle.mw_cycle.specs.State.{BoardState, Fits}
+use Rattle.mw_sim.proofs.Runs.{few_past}
+use Rattle.mw_sim.specs.Run.{AreFew}
 use Rattle.mw_sim.specs.Start.{with_pointer}
 use Rattle.mw_debug.specs.declared.session.Undo.{Undo}
 use Rattle.mw_debug.specs.Elements.{state_with}
 use Rattle.mw_debug.specs.Kept.{AreMoments, IsElement, IsSession}
-use Rattle.mw_debug.specs.Session.{Moment, Session, begun}
+use Rattle.mw_debug.specs.Session.{Moment, Session, begun, run_from}
 use Rattle.mw_debug.specs.Views.{moment_of, moments_of, undo_of}
+use Rattle.mw_debug.proofs.Cycles.{cycle_from}
 
 -- ---- one moment
 
@@ -37,12 +38,14 @@ with_memory : (s : BoardState) (clock : Clock) (memory : List ℕ)
 with_memory s clock memory is =
     ap (λ (words : List ℕ). let m : Moment = record { state = record s { memory = words }; clock = clock } in m) is
 
--- after a cycle
-pub cycle_undone : (board : BoardParts) (store : List ℕ) (s : BoardState) (clock : Clock) (given : CycleIn)
-    → moment_of (undo_of s clock) (state_after board store s given).memory ≡ record { state = s; clock = clock }
+-- after a cycle, with the waits before it
+pub cycle_undone : (board : BoardParts) (store : List ℕ) (env : Environment) (m : Moment) (run : BoardRun)
+    → run ≡ run_from board store env m → moment_of (undo_of m.state m.clock) run.state.memory ≡ m
 unfolding state_after edge
-cycle_undone board store s clock given =
-    with_memory s clock (state_after board store s given).memory (put_back s.memory s.mar _ _)
+cycle_undone board store env m run is =
+    let one = cycle_from board store env m run is in
+    rw one.state (with_memory m.state m.clock (state_after board store m.state one.given).memory
+    (put_back m.state.memory m.state.mar _ _))
 
 -- setting an element leaves the memory
 value_leaves : (s : BoardState) (e : Element) (v : ℕ) → (with_value s e v).memory ≡ s.memory
@@ -95,25 +98,14 @@ pub history_with : (journal : List Undo) (undo : Undo) (memory : List ℕ) (m : 
 history_with journal undo memory m is = history_more journal undo memory
     ∙ ap (λ (m : Moment). m ∷ moments_of (reverse journal) m.state.memory) is
 
--- ---- clocks
-
-pub cycles_on : (event : Option Event) (clock : Clock) → (clock_after event clock).cycle ≡ clock.cycle + 1
-cycles_on (Some (Out y)) clock = refl
-cycles_on (Some (Taken v)) clock = refl
-cycles_on None clock = refl
-
-pub taken_on : (event : Option Event) (clock : Clock) → (clock_after event clock).taken ≤ clock.taken + 1
-taken_on (Some (Out y)) clock = omega arith
-taken_on (Some (Taken v)) clock = omega arith
-taken_on None clock = omega arith
-
 -- ---- what holds of a session
 
 -- with an entry more of the history
 pub session_on : (board : BoardParts) (old new : Session) → IsSession board old → new.history ≡ old.now ∷ old.history
     → new.watched ≡ old.watched → Fits board new.now.state → new.now.clock.cycle ≤ old.now.clock.cycle + 1
-    → new.now.clock.taken ≤ old.now.clock.taken + 1 → IsSession board new
-session_on board old new is history watched fits cycle taken =
+    → new.now.clock.taken ≤ old.now.clock.taken + 1
+    → AreFew old.now.clock.clocks 1 new.now.clock.clocks → IsSession board new
+session_on board old new is history watched fits cycle taken clocks =
     let more : length new.history ≡ length old.history + 1 = rw history (omega arith) in
     record {
       moments = (
@@ -121,23 +113,36 @@ session_on board old new is history watched fits cycle taken =
           fits = fits;
           cycle = omega (arith, more, cycle, is.moments.0.cycle);
           taken = omega (arith, more, taken, is.moments.0.taken);
+          clocks = rw more (few_past old.now.clock.clocks 1 new.now.clock.clocks (length old.history) clocks
+              is.moments.0.clocks);
         },
         subst (λ (ms : List Moment). AreMoments board ms) (sym history) is.moments,
       );
       watched = subst (λ (ns : List ℕ). All (λ number. IsElement board number) ns) (sym watched) is.watched;
     }
 
--- fewer cycles were made, and inputs taken, than there can be
-pub few_cycles : (board : BoardParts) (m : Moment) (journal : List Undo) (memory : List ℕ) (n : ℕ)
-    → AreMoments board (m ∷ moments_of (reverse journal) memory) → n ≡ length journal + 1 → n < 2 ^ 64
-    → (m.clock.cycle + 1 < 2 ^ 64) × (m.clock.taken + 1 < 2 ^ 64)
-few_cycles board m journal memory n is more few =
+-- fewer cycles were made, inputs taken, and clocks passed, than there can be
+pub record HasFewer (clock : Clock) : Type 0 where
+  pub cycle : clock.cycle + 1 < 2 ^ 64
+  pub taken : clock.taken + 1 < 2 ^ 64
+  pub clocks : clock.clocks + 1 < 2 ^ 64
+
+pub has_fewer : (board : BoardParts) (m : Moment) (journal longer : List Undo) (undo : Undo) (memory : List ℕ) (n : ℕ)
+    → AreMoments board (m ∷ moments_of (reverse journal) memory) → longer ≡ journal ++ undo ∷ []
+    → n ≡ length longer → n < 2 ^ 63 → HasFewer m.clock
+has_fewer board m journal longer undo memory n is pushed all few =
     let entries = history_length journal memory in
-    (omega (arith, more, few, entries, is.0.cycle), omega (arith, more, few, entries, is.0.taken))
+    let more : n ≡ length journal + 1
+    = all ∙ ap length pushed ∙ length-append journal (undo ∷ []) in
+    record {
+      cycle = omega (arith, more, few, entries, is.0.cycle);
+      taken = omega (arith, more, few, entries, is.0.taken);
+      clocks = omega (arith, more, few, entries, is.0.clocks);
+    }
 
 -- before the first command
 pub begun_is : (board : BoardParts) (s : BoardState) → Fits board s → IsSession board (begun s)
 begun_is board s fits = record {
-  moments = (record { fits = fits; cycle = omega arith; taken = omega arith }, tt);
+  moments = (record { fits = fits; cycle = omega arith; taken = omega arith; clocks = omega arith }, tt);
   watched = All-nil (λ (number : ℕ). IsElement board number);
 }

@@ -55,11 +55,13 @@ pub record IsReading (board : BoardParts) (reading : Reading) : Type 0 where
   pub counted : reading.cycles ≡ cycles_of reading.entries
   pub few : reading.cycles ≤ 100000
 
--- the state fits the board, and at most so many cycles were made, and inputs taken
+-- the state fits the board, at most so many cycles were made, and inputs taken, and the clocks are few beside them: no
+-- clock from 2^63 on waits, as no wait list is so long
 pub record IsMoment (board : BoardParts) (most : ℕ) (m : Moment) : Type 0 where
   pub fits : Fits board m.state
   pub cycle : m.clock.cycle ≤ most
   pub taken : m.clock.taken ≤ most
+  pub clocks : m.clock.clocks ≤ 2 ^ 63 + most
 
 -- each state fits the board, and there is an entry for each cycle that was made before it
 abbrev pub AreMoments : BoardParts → List Moment → Type 0

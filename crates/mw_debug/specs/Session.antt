@@ -9,13 +9,14 @@ use Rattle.mw_board.specs.declared.parts.BoardParts.{BoardParts}
 use Rattle.mw_cycle.specs.declared.environment.Clock.{Clock}
 use Rattle.mw_cycle.specs.Boundary.{first_boundary}
 use Rattle.mw_cycle.specs.Environment.{Environment, at_start}
-use Rattle.mw_cycle.specs.Run.{BoardRun, longer_run}
+use Rattle.mw_cycle.specs.Run.{BoardRun}
 use Rattle.mw_cycle.specs.State.{BoardState}
-use Rattle.mw_sim.specs.Run.{run_at}
+use Rattle.mw_sim.specs.Run.{cycles_after, run_at}
 use Rattle.mw_sim.specs.Texts.{event_line}
 use Rattle.mw_debug.specs.Elements.{state_with}
 
--- a state of the board, and how far its run has come: the cycles made, and the inputs taken
+-- a state of the board, and how far its run has come: the cycles made, the inputs taken, and the clocks, of which those
+-- that made no cycle were waits
 pub record Moment : Type 0 where
   pub state : BoardState
   pub clock : Clock
@@ -45,11 +46,12 @@ numbered_event line event = decimal line ++ 32 ∷ event_line event
 abbrev pub reached : BoardRun → Moment
 reached run = record { state = run.state; clock = run.clock }
 
--- the run of one cycle from a moment
+-- the run of one cycle from a moment, with the waits before it
 abbrev pub run_from : BoardParts → List ℕ → Environment → Moment → BoardRun
-run_from board store env m = longer_run board store env (run_at m.state [] m.clock)
+run_from board store env m = cycles_after board store env (run_at m.state [] m.clock) 1
 
--- with a cycle more of the command on this line: an entry of the history, and the cycle's event is printed
+-- with a cycle more of the command on this line: one entry of the history for it and the waits before it, which print
+-- nothing, and its event is printed
 unfoldable pub with_cycle : BoardParts → List ℕ → Environment → ℕ → Session → Session
 with_cycle board store env line s =
     let run = run_from board store env s.now in

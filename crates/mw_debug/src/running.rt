@@ -237,8 +237,8 @@ fn session_after(
 
 /// What a script prints from a start, command by command: each line begins with the number of its command's line. First
 /// come the events of a command's cycles, `out V` and `taken V`; then `show` prints `b.ELEMENT=V` or `mem A=V`, and
-/// every other command `at A` and the elements that are watched, in the order in which they were first watched. It
-/// takes a hundred and some bytes for each cycle and each `set` that can be undone.
+/// every other command `at A` and the elements that are watched, in the order in which they were first watched. Waits
+/// print nothing. It takes a hundred and some bytes for each cycle and each `set` that can be undone.
 ///
 /// The start fits the board, and the acts of the script keep its ranges, as those of
 /// [`read_script`](crate::read_script) do.

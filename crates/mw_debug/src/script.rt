@@ -2,8 +2,8 @@
 
 use mw_base::Items;
 
-/// What a command does. A count is 1 to 10,000; all cycles that a script asks for are 100,000 at most. The elements are
-/// those of a board by number, and behind them the stack pointer.
+/// What a command does. A count is 1 to 10,000; all cycles that a script asks for are 100,000 at most, and the waits
+/// before a cycle aren't counted. The elements are those of a board by number, and behind them the stack pointer.
 #[derive(Clone, Copy, Debug, PartialEq, Eq)]
 pub enum Act {
     /// So many cycles are made.
@@ -20,8 +20,8 @@ pub enum Act {
     ShowMemory(u32),
     /// From now on the element of this number is printed with each control address. It keeps its first place.
     Watch(u32),
-    /// The last so many entries of the history are undone: each cycle that was made is one, and each element
-    /// that was set.
+    /// The last so many entries of the history are undone: each cycle that was made is one, with the waits before it,
+    /// and each element that was set.
     Back(u32),
 }
 

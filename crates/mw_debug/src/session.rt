@@ -1,7 +1,6 @@
 // Where a script stands while it runs.
-ghost use Rattle.std.specs.Prelude.{◌≡◌, ◌<◌, ◌++◌, ◌==◌, OnOk, length};
+ghost use Rattle.std.specs.Prelude.{◌≡◌, ◌<◌, ◌^◌, ◌++◌, ◌==◌, OnOk, length};
 ghost use Rattle.std.specs.List.{flat_map};
-ghost use Rattle.std.specs.Option.{option_to_list};
 ghost use Rattle.mw_base.specs.Reading.{Gives};
 ghost use Rattle.mw_cycle.specs.Environment.{IsEnvironment};
 ghost use Rattle.mw_cycle.specs.State.{Fits};
@@ -14,9 +13,9 @@ ghost use Rattle.mw_debug.specs.Views.{moment_of, session_seen, undo_of};
 use crate::element::set_value;
 use mw_base::{Event, NoMemory, Refusal, Refused, TextFault, append_decimal};
 use mw_board::{Board, Store};
-use mw_cycle::{Clock, Env, State, Whole, cycle};
+use mw_cycle::{Clock, Env, State, Whole};
 use mw_seq::Seq;
-use mw_sim::append_event;
+use mw_sim::{append_event, run_cycles};
 use std::alloc::Global;
 
 /// What is kept of a moment: its state but for the memory, of which a cycle changes the word at the address register at
@@ -50,19 +49,19 @@ pub(crate) struct Session {
     pub text: Vec<u8>,
 }
 
-/// Appends the event of a cycle, if it has one, behind the number of the command's line.
+/// Appends events, each behind the number of the command's line.
 fn append_numbered(
     alloc: Global,
     text: &mut Vec<u8>,
     line: u32,
-    event: Option<Event>,
+    events: &[Event],
 ) -> Result<(), NoMemory>
-    ensures { OnOk result (text.new.items ≡ text.old.items ++ flat_map (numbered_event line) (option_to_list event)) }
+    ensures { OnOk result (text.new.items ≡ text.old.items ++ flat_map (numbered_event line) events.now) }
 {
-    if let Some(event) = event {
+    for event in events {
         append_decimal(alloc, text, u64::from(line))?;
         text.push(b' ')?;
-        append_event(alloc, text, event)?;
+        append_event(alloc, text, *event)?;
     }
     Ok(())
 }
@@ -77,7 +76,7 @@ impl Session {
     {
         Session {
             state,
-            clock: Clock { cycle: 0, taken: 0 },
+            clock: Clock::start(),
             journal: Vec::new(alloc),
             watched: Vec::new(alloc),
             text: Vec::new(alloc),
@@ -103,15 +102,16 @@ impl Session {
         }
     }
 
-    /// How many entries the history has.
+    /// How many entries the history has. No list has as many as 2^63.
     fn entries(&self) -> usize
-        ensures { result ≡ length self.now.journal.items }
+        ensures exact { result ≡ length self.now.journal.items }
+        ensures few { result < 2 ^ 63 }
     {
         self.journal.len()
     }
 
-    /// One cycle more of the command on this line.
-    #[tactic(auto, unfolding(crate::specs::Session::with_cycle, mw_cycle::specs::Run::longer_run))]
+    /// One cycle more of the command on this line, with the waits before it.
+    #[tactic(auto, unfolding(crate::specs::Session::with_cycle))]
     fn make_cycle(
         &mut self,
         alloc: Global,
@@ -128,12 +128,21 @@ impl Session {
     {
         let undo = self.undo();
         self.journal.push(undo)?;
-        // A call for the proof: there are fewer than 2^64 entries, and at least as many as cycles.
+        // A call for the proof: there are fewer than 2^63 entries, and at least as many as cycles, and no clock from
+        // 2^63 on waits.
         let _ = self.entries();
-        let given = env.given(self.clock);
-        let nets = cycle(&Whole, board, store, &mut self.state, given);
-        self.clock = self.clock.after(nets.event);
-        append_numbered(alloc, &mut self.text, line, nets.event)?;
+        let mut events = Vec::with_capacity(alloc, 1)?;
+        self.clock = run_cycles(
+            &Whole,
+            board,
+            store,
+            &mut self.state,
+            env,
+            self.clock,
+            1,
+            &mut events,
+        );
+        append_numbered(alloc, &mut self.text, line, &events)?;
         Ok(())
     }
 

@@ -6,7 +6,7 @@ use Rattle.std.specs.Option.{unwrap_or}
 use Rattle.std.proofs.lemmas.Grind.{same_number_lists}
 use Rattle.std.proofs.lemmas.List.{take_all}
 use Rattle.std.proofs.lemmas.Option.{get_or_from_slice_get, slice_get_within}
-use Rattle.mw_cycle.specs.declared.series.Series.TheVariants.{Inputs}
+use Rattle.mw_cycle.specs.SteadySeries.{Inputs}
 use Rattle.mw_cycle.specs.BoardTerms.{Standing}
 use Rattle.mw_term.specs.declared.decided.Decided.{Decided}
 use Rattle.mw_macro.specs.DescribedStep.{AreInputs}
@@ -23,21 +23,25 @@ use Rattle.mw_symmem.specs.Words.{HaveOwnKinds}
 use Rattle.mw_symboard.specs.Seen.{AreFirst}
 use Rattle.mw_symboard.specs.Turns.{Symbolic}
 use Rattle.mw_symmach.specs.Turns.{Stepping}
-use Rattle.mw_rel.specs.Case.{IsCase, IsFeasiblePrefix, IsStartAt, case_of, cycles_of, is_late}
+use Rattle.mw_rel.specs.Case.{IsCase, IsFeasiblePrefix}
+use Rattle.mw_rel.specs.SteadyCase.{IsStartAt, case_of, cycles_of, is_late}
 use Rattle.mw_rel.specs.CaseWords.{CaseWords, case_words, sides_of, whole, with_comparisons}
-use Rattle.mw_rel.specs.Certified.{board_run, boundary_at}
+use Rattle.mw_rel.specs.Certified.{boundary_at}
+use Rattle.mw_rel.specs.SteadyCertified.{board_run}
 use Rattle.mw_rel.specs.ComparisonWords.{Compared, Sides, all_compared, are_alike, compared_in, comparison_words}
 use Rattle.mw_rel.specs.ComparisonWords.{is_unlike}
 use Rattle.mw_rel.specs.declared.difference.Difference.TheVariants.{Late}
-use Rattle.mw_rel.specs.Differs.{difference_of, first_step, segment_of, shown_at, shown_by}
+use Rattle.mw_rel.specs.SteadyDiffers.{difference_of, first_step, segment_of, shown_at, shown_by}
 use Rattle.mw_rel.specs.Free.{no_boundary, numbered}
 use Rattle.mw_rel.specs.Job.{Job, IsJob}
 use Rattle.mw_rel.specs.PathWords.{path_of}
 use Rattle.mw_rel.specs.Lines.{reads_of}
 use Rattle.mw_rel.specs.Relation.{Boundary}
 use Rattle.mw_rel.specs.Rules.{IsLineOf}
-use Rattle.mw_rel.specs.Start.{Start}
+use Rattle.mw_rel.specs.SteadyStart.{Start}
 use Rattle.mw_rel.proofs.Cases.{segments_have_cycles}
+use Rattle.mw_ready.proofs.Cases.{case_with, case_without}
+use Rattle.mw_fork.proofs.Failing.{none_differs_with}
 use Rattle.mw_rel.proofs.Relations.{is_there, solved_at}
 use Rattle.mw_rel.proofs.Same.{same_where_none}
 use Rattle.mw_rel.proofs.Shown.{is_shown}
@@ -80,7 +84,7 @@ ended_met job number elements cycles late bits path run step valid met = record 
   cases = met.on.cases;
   written = met.on.written;
   whole = met.whole;
-  feasible = case_met job number elements cycles late bits path run (Some step) valid met;
+  feasible = case_with job number bits (case_met job number elements cycles late bits path run (Some step) valid met);
   segment = met.segment;
   of_segment = subst (λ (b : Bool). HasSegment job number (ground_in run.space elements) path cycles b
       met.segment) met.ends.0 met.ended;
@@ -127,9 +131,10 @@ pub at_boundary : (job : Job) (number : ℕ) (elements : List ℕ) (bits : List 
     → IsEnded job number elements bits cycles space path board step → boundary_at job board.place.at ≢ None
 unfolding difference_of
 at_boundary job number elements bits cycles space path board step valid is none =
-    let start = is.feasible.start in
-    let one = (have_starts job number (ground_in space elements) valid is.stands).reached start is.feasible.starts in
-    let on = on_path job number elements bits cycles space path board step one.0 start is one.1 is.feasible.bits_are in
+    let case = case_without job number bits is.feasible in
+    let start = case.start in
+    let one = (have_starts job number (ground_in space elements) valid is.stands).reached start case.starts in
+    let on = on_path job number elements bits cycles space path board step one.0 start is one.1 case.bits_are in
     let come = come_first job number elements bits cycles space path board step one.0 start valid is one.1 on in
     let run = board_run job start cycles in
     let shows : difference_of job start ≡ Some Late =
@@ -176,8 +181,9 @@ pub none_differs : (job : Job) (number : ℕ) (elements : List ℕ) (bits : List
     → are_alike board.events step.parts.events ≡ true → board.place.sp ≡ reached.sp
     → AreOne job.relation.shape new path (terms_at_end job board step) reached.lines board.events step.parts.events
     → NoneDiffersOf job number bits
-none_differs job number elements bits cycles old new path board step reached valid is goes own formed there alike sp one
-    start starts of_case =
+none_differs job number elements bits cycles old new path board step reached valid is goes own formed there alike sp
+    one =
+    none_differs_with job number bits (λ start starts of_case.
     let ground = ground_compared job number old new elements valid is.stands goes own in
     let at = (have_starts job number (ground_in new elements) valid ground).reached start starts in
     let given = at.0 in
@@ -201,7 +207,7 @@ none_differs job number elements bits cycles old new path board step reached val
     })
     (memories_same job number elements bits cycles old new path board step start valid is goes own
     starts of_case one.memory
-    (come.fits.size ∙ ap (λ n. 2 ^ n) address) (fits.size ∙ ap (λ n. 2 ^ n) (valid.matched.address ∙ address)))
+    (come.fits.size ∙ ap (λ n. 2 ^ n) address) (fits.size ∙ ap (λ n. 2 ^ n) (valid.matched.address ∙ address))))
 
 -- ---- something differs
 
@@ -258,12 +264,13 @@ unlike_differs job number elements bits cycles space path board step reached giv
 pub nowhere_none : (job : Job) (number : ℕ) (elements : List ℕ) (bits : List Decided) (space : Space) (path : Function)
     → IsJob job → IsGround job number (ground_in space elements)
     → IsCasePath job number (ground_in space elements) bits path → Agree path never → NoneDiffersOf job number bits
-nowhere_none job number elements bits space path valid stands cases none start starts of_case =
+nowhere_none job number elements bits space path valid stands cases none =
+    none_differs_with job number bits (λ start starts of_case.
     let one = (have_starts job number (ground_in space elements) valid stands).reached start starts in
     let on = cases.only one.0 start one.1
     (subst (AreFirst bits) (sym of_case) (take_all (length bits) bits (omega arith))) in
     let both : false ≡ true = sym (none one.0) ∙ on in
-    absurd cc
+    absurd cc)
 
 -- ---- the words of the comparison
 

@@ -22,6 +22,7 @@ use Rattle.mw_rel.specs.Case.{IsCase, IsFeasiblePrefix}
 use Rattle.mw_rel.specs.Job.{Job}
 use Rattle.mw_rel.specs.PathWords.{path_word}
 use Rattle.mw_path.specs.declared.paths.Feasible.{Feasible}
+use Rattle.mw_ready.proofs.Alike.{prefix_with, prefix_without}
 use Rattle.mw_course.specs.CasePaths.{IsCasePath, IsNextOfCase}
 use Rattle.mw_course.specs.Listed.{AsksFor}
 use Rattle.mw_course.specs.OnWay.{HasDecided, IsOnWay}
@@ -72,12 +73,16 @@ choice job number g bits path low high kind term feasible starts cases asked by_
     let at_high = path_by job number g bits path high kind term true cases asked by_high in
     record {
       zero =
-          λ is. feasible_there job number g _ low (told.zero_somewhere is).0 starts at_low (told.zero_somewhere is).1;
-      one = λ is. feasible_there job number g _ high (told.one_somewhere is).0 starts at_high (told.one_somewhere is).1;
-      no_zero = λ is. nowhere job number g _ low starts at_low (told.zero_nowhere is);
-      no_one = λ is. nowhere job number g _ high starts at_high (told.one_nowhere is);
+          λ is. prefix_with job number _
+          (feasible_there job number g _ low (told.zero_somewhere is).0 starts at_low (told.zero_somewhere is).1);
+      one = λ is. prefix_with job number _
+          (feasible_there job number g _ high (told.one_somewhere is).0 starts at_high (told.one_somewhere is).1);
+      no_zero = λ is there.
+          nowhere job number g _ low starts at_low (told.zero_nowhere is) (prefix_without job number _ there);
+      no_one = λ is there.
+          nowhere job number g _ high starts at_high (told.one_nowhere is) (prefix_without job number _ there);
       some = λ before none.
-          let at = assignment_for job number g bits starts before in
+          let at = assignment_for job number g bits starts (prefix_without job number bits before) in
           one_of_two g.table term path low high feasible at.given _ by_low by_high told
           (cases.only at.given at.start at.is at.first) refl none;
     }
@@ -163,7 +168,7 @@ decided_so job number g bits nodes path budget split kind term value table wide 
         written = written_next job number bits g path next kind term value on.stands.space.map asks on.written
             (made_by_value nodes path (bit g.table term 0) budget split value is);
         cases = path_by job number g bits path _ kind term value on.cases asked by;
-        feasible = feasible;
+        feasible = prefix_without job number _ feasible;
       };
       by = by;
     }
@@ -185,7 +190,7 @@ pub is_chosen : (job : Job) (number : ℕ) (g : Ground) (bits : List Decided) (p
     (feasible : Feasible) → IsOnWay job number g bits path → IsChoice job number bits kind feasible
     → IsChosen (IsCase job number) bits kind (not feasible.zero) (feasible.zero && feasible.one)
 is_chosen job number g bits path kind feasible on is =
-    first_chosen job number bits kind feasible.zero feasible.one is on.feasible
+    first_chosen job number bits kind feasible.zero feasible.one is (prefix_with job number bits on.feasible)
 
 -- a path is split, and the first value that is feasible is gone on with
 pub has_decided : (job : Job) (number : ℕ) (g : Ground) (bits : List Decided) (nodes : List Node) (path : Function)
@@ -197,7 +202,7 @@ pub has_decided : (job : Job) (number : ℕ) (g : Ground) (bits : List Decided) 
     (not feasible.zero)
 has_decided job number g bits nodes path budget split kind term feasible table wide on asked asks is free =
     decided_so job number g bits nodes path budget split kind term (not feasible.zero) table wide on asked asks is
-    (first_feasible job number bits kind feasible.zero feasible.one free on.feasible)
+    (first_feasible job number bits kind feasible.zero feasible.one free (prefix_with job number bits on.feasible))
 
 -- and another course may go on with 1, where that is feasible
 pub has_turned : (job : Job) (number : ℕ) (g : Ground) (bits : List Decided) (nodes : List Node) (path : Function)

@@ -8,12 +8,12 @@ use Rattle.std.proofs.lemmas.Option.{get_or_from_slice_get, slice_get-get_or, sl
 use Rattle.mw_base.specs.declared.event.Event.{Event}
 use Rattle.mw_base.specs.declared.event.Event.TheVariants as events
 use Rattle.mw_board.specs.Elements.{element_count}
-use Rattle.mw_cycle.specs.declared.series.Series.TheVariants.{Inputs}
+use Rattle.mw_cycle.specs.SteadySeries.{Inputs}
 use Rattle.mw_cycle.specs.Boundary.{numbers}
 use Rattle.mw_cycle.specs.BoardTerms.{term_of_part}
 use Rattle.mw_term.specs.declared.decided.Decided.{Decided}
 use Rattle.mw_cycle.specs.Elements.{element_of}
-use Rattle.mw_cycle.specs.Run.{BoardRun}
+use Rattle.mw_cycle.specs.SteadyRun.{BoardRun}
 use Rattle.mw_expr.specs.Values.{value}
 use Rattle.mw_macro.specs.DescribedStep.{AreInputs}
 use Rattle.mw_term.specs.Assigned.{Given}
@@ -28,16 +28,17 @@ use Rattle.mw_symboard.proofs.Runs.{elements_have_terms}
 use Rattle.mw_symmach.specs.Expressions.{AreTerms, values_at}
 use Rattle.mw_symmach.specs.Steps.{event_of}
 use Rattle.mw_symmach.specs.Turns.{Stepping}
-use Rattle.mw_rel.specs.Case.{IsStartAt}
-use Rattle.mw_rel.specs.Certified.{board_run, boundary_at}
+use Rattle.mw_rel.specs.SteadyCase.{IsStartAt}
+use Rattle.mw_rel.specs.Certified.{boundary_at}
+use Rattle.mw_rel.specs.SteadyCertified.{board_run}
 use Rattle.mw_rel.specs.ComparisonWords.{are_alike}
-use Rattle.mw_rel.specs.Differs.{difference_of, first_step}
+use Rattle.mw_rel.specs.SteadyDiffers.{difference_of, first_step}
 use Rattle.mw_rel.specs.InRelation.{Holds, pair_of, values_of}
 use Rattle.mw_rel.specs.Job.{Job, IsJob}
 use Rattle.mw_rel.specs.Lines.{Line}
 use Rattle.mw_rel.specs.Relation.{Boundary}
 use Rattle.mw_rel.specs.Rules.{IsLineOf}
-use Rattle.mw_rel.specs.Start.{Start}
+use Rattle.mw_rel.specs.SteadyStart.{Start}
 use Rattle.mw_rel.proofs.Elements.{back_at, front_at, mapped_at, numbers_length, register_width, widths_count}
 use Rattle.mw_rel.proofs.Relations.{is_at}
 use Rattle.mw_rel.proofs.Same.{none_where_same, same_where_none}

@@ -6,7 +6,9 @@ use Rattle.mw_rel.specs.Begin.{Begin}
 use Rattle.mw_rel.specs.CaseWords.{CaseWords, case_words}
 use Rattle.mw_rel.specs.Job.{Job, IsJob}
 use Rattle.mw_rel.specs.PathWords.{path_of}
-use Rattle.mw_rel.specs.Start.{Start}
+use Rattle.mw_rel.specs.SteadyStart.{Start}
+use Rattle.mw_ready.specs.Thinned.{always_ready}
+use Rattle.mw_ready.proofs.Alike.{same_case}
 use Rattle.mw_term.specs.Assigned.{Numbers, given_by}
 use Rattle.mw_term.specs.Cofactors.{Agree}
 use Rattle.mw_term.specs.Functions.{Function, never}
@@ -59,12 +61,16 @@ pub of_case : (job : Job) (number : ℕ) (elements : List ℕ) (cycles : ℕ) (l
     (path : Function) (run : Run) (step : Option Stepping) (numbers : Numbers) (begin : Begin)
     → HasMetCase job number elements cycles late bits path run step → IsFirst path numbers
     → ((elements : List ℕ) → IsGround job number (ground_in run.space elements)
-    → (start : Start) × IsChosen job number begin start
+    → (start : Start) × IsChosen job number begin (always_ready start)
     × StandsForStart job number (ground_in run.space elements) (given_by numbers) start)
     → IsOfCase job number bits begin
 of_case job number elements cycles late bits path run step numbers begin met first begins =
     let is = begins elements met.on.stands in
-    record { start = is.0; chosen = is.1; of_case = met.whole (given_by numbers) is.0 is.2 first.holds }
+    record {
+      start = always_ready is.0;
+      chosen = is.1;
+      of_case = same_case job is.0 ∙ met.whole (given_by numbers) is.0 is.2 first.holds;
+    }
 
 -- it is the first of the case
 pub first_of_case : (job : Job) (number : ℕ) (elements : List ℕ) (cycles : ℕ) (late : Bool)

@@ -1,9 +1,11 @@
 -- The start that is found of a case.
-use Rattle.std.proofs.Common.{ℕ, List}
+use Rattle.std.proofs.Common.{ℕ, List, sym, ◌∙◌}
 use Rattle.mw_term.specs.declared.decided.Decided.{Decided}
 use Rattle.mw_rel.specs.Begin.{Begin}
 use Rattle.mw_rel.specs.Job.{Job}
-use Rattle.mw_rel.specs.Start.{Start}
+use Rattle.mw_rel.specs.SteadyStart.{Start}
+use Rattle.mw_ready.specs.Thinned.{always_ready}
+use Rattle.mw_ready.proofs.Alike.{same_case, same_difference}
 use Rattle.mw_term.specs.Assigned.{Numbers, given_by}
 use Rattle.mw_course.specs.declared.elements.Space.{Space}
 use Rattle.mw_course.specs.Begins.{IsAssigned, IsChosen}
@@ -17,16 +19,16 @@ use Rattle.mw_course.specs.Starts.{IsGround, StandsForStart}
 pub found_differs : (job : Job) (boundary : ℕ) (elements : List ℕ) (space : Space) (numbers : Numbers) (begin : Begin)
     (bits : List Decided) → IsFound job boundary elements bits space numbers
     → ((elements : List ℕ) → IsGround job boundary (ground_in space elements)
-    → (start : Start) × IsChosen job boundary begin start
+    → (start : Start) × IsChosen job boundary begin (always_ready start)
     × StandsForStart job boundary (ground_in space elements) (given_by numbers) start)
     → IsDiffering job boundary bits begin
 found_differs job boundary elements space numbers begin bits found begins =
     let is = begins elements found.stands in
     record {
-      start = is.0;
+      start = always_ready is.0;
       chosen = is.1;
-      of_case = found.of_case is.0 is.2;
-      differs = found.differs is.0 is.2;
+      of_case = same_case job is.0 ∙ found.of_case is.0 is.2;
+      differs = λ none. found.differs is.0 is.2 (sym (same_difference job is.0) ∙ none);
     }
 
 -- it is the least

@@ -8,6 +8,7 @@ pub mod ComparingOn
 pub mod Differing
 pub mod EachCompared
 pub mod EventsCompared
+pub mod Failing
 pub mod FirstStarts
 pub mod FoundStarts
 pub mod GoingOn

@@ -6,6 +6,7 @@ use Rattle.std.specs.Prelude.{Bool, true, false, IsSome, Option, Some, None, opt
 use Rattle.std.specs.Prelude.{slice_index_or}
 use Rattle.std.proofs.lemmas.Bool.{eqb-true}
 use Rattle.std.proofs.lemmas.Option.{same_Some}
+use Rattle.mw_ready.proofs.Alike.{prefix_with}
 use Rattle.mw_term.specs.declared.decided.Decided.{Decided}
 use Rattle.mw_term.specs.Cofactors.{Agree, HasMoreCofactors}
 use Rattle.mw_term.specs.declared.word.Word.{Word}
@@ -203,7 +204,7 @@ pub stops_by : (job : Job) (number nodes : ℕ) (g : Ground) (bits : List Decide
     → StopsBy job number nodes bits stop
 stops_by job number nodes g bits places path term (faults.Over named j) stop law numbered starts on asks cause tells =
     let map = on.stands.space.map in
-    let feasible = on.feasible in
+    let feasible = prefix_with job number bits on.feasible in
     rw (tells.over named j refl) (
     record {
       asks = rw (ap (λ (w : CaseWords). w.asked) asks) refl;

@@ -5,9 +5,9 @@ use Rattle.std.specs.Prelude.{◌==◌, if◌then◌else◌, None}
 use Rattle.std.proofs.Math.Nat.{mod-eq_of_lt}
 use Rattle.std.proofs.lemmas.Bool.Decides.{nat_tests}
 use Rattle.mw_board.specs.declared.parts.BoardParts.{BoardParts}
-use Rattle.mw_cycle.specs.declared.series.Series.{Series}
-use Rattle.mw_cycle.specs.declared.series.Series.TheVariants.{Inputs}
-use Rattle.mw_cycle.specs.Series.{kind_of, series_of_kind}
+use Rattle.mw_cycle.specs.SteadySeries.{Series}
+use Rattle.mw_cycle.specs.SteadySeries.{Inputs}
+use Rattle.mw_cycle.specs.SteadySeries.{kind_of, series_of_kind}
 use Rattle.mw_cycle.proofs.Named.{no_kind, no_variable}
 use Rattle.mw_term.specs.declared.kinds.WordKind.{WordKind}
 use Rattle.mw_term.specs.declared.kinds.WordKind.TheVariants.{Base, Element, Probe}
@@ -20,10 +20,10 @@ use Rattle.mw_symmem.specs.Words.{HaveOwnKinds, IsVariable}
 use Rattle.mw_symmem.specs.Workspace.{HaveKinds, IsLater}
 use Rattle.mw_symboard.specs.Variables.{HaveVariables, IsOutsideKind, IsOutsideNumber}
 use Rattle.mw_symboard.proofs.Environments.{variables_have_values, variables_stay}
-use Rattle.mw_rel.specs.Case.{IsStartAt}
+use Rattle.mw_rel.specs.SteadyCase.{IsStartAt}
 use Rattle.mw_rel.specs.InRelation.{values_of}
 use Rattle.mw_rel.specs.Job.{Job, IsJob}
-use Rattle.mw_rel.specs.Start.{Start}
+use Rattle.mw_rel.specs.SteadyStart.{Start}
 use Rattle.mw_course.specs.declared.elements.Space.{Space}
 use Rattle.mw_fork.specs.Comparing.{GoesComparing, IsComparedKind}
 use Rattle.mw_course.specs.OnWay.{ground_in}

@@ -10,7 +10,7 @@ use Rattle.mw_cycle.specs.Boundary.{numbers}
 use Rattle.mw_cycle.specs.BoardTerms.{Parts, term_of_part}
 use Rattle.mw_term.specs.declared.decided.Decided.{Decided}
 use Rattle.mw_cycle.specs.Elements.{element, element_of}
-use Rattle.mw_cycle.specs.Run.{BoardRun}
+use Rattle.mw_cycle.specs.SteadyRun.{BoardRun}
 use Rattle.mw_cycle.specs.State.{BoardState, Fits}
 use Rattle.mw_macro.specs.DescribedStep.{Stepped}
 use Rattle.mw_term.specs.Assigned.{Given}
@@ -31,13 +31,13 @@ use Rattle.mw_symmach.specs.Turns.{Stepping}
 use Rattle.mw_symmach.proofs.Acting.{events_same}
 use Rattle.mw_symmach.proofs.Making.{values_same}
 use Rattle.mw_symboard.specs.Turns as boards
-use Rattle.mw_rel.specs.Case.{cycles_of}
+use Rattle.mw_rel.specs.SteadyCase.{cycles_of}
 use Rattle.mw_rel.specs.CaseWords.{terms_with}
-use Rattle.mw_rel.specs.Certified.{board_run}
-use Rattle.mw_rel.specs.Differs.{first_step, segment_of}
+use Rattle.mw_rel.specs.SteadyCertified.{board_run}
+use Rattle.mw_rel.specs.SteadyDiffers.{first_step, segment_of}
 use Rattle.mw_rel.specs.InRelation.{pair_of, values_of}
 use Rattle.mw_rel.specs.Job.{Job, IsJob}
-use Rattle.mw_rel.specs.Start.{Start}
+use Rattle.mw_rel.specs.SteadyStart.{Start}
 use Rattle.mw_rel.proofs.Cases.{segments_have_cycles}
 use Rattle.mw_course.specs.CasePaths.{HasSegment}
 use Rattle.mw_fork.specs.Comparing.{GoesComparing}

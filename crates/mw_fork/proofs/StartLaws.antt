@@ -5,6 +5,7 @@ use Rattle.mw_explore.specs.Cases.{Leads}
 use Rattle.mw_rel.specs.Case.{IsBefore}
 use Rattle.mw_rel.specs.Views.{job_of}
 use Rattle.mw_rel.proofs.Cases.{one_case_is_first}
+use Rattle.mw_ready.proofs.Cases.{case_with, case_without}
 use Rattle.mw_fork.specs.declared.traced.Traced.{Traced}
 use Rattle.mw_fork.specs.declared.starts.Starts.{Starts}
 use Rattle.mw_fork.specs.StartCases.{HasGoneThrough, IsCaseAt}
@@ -17,9 +18,10 @@ pub gone_is_case : (s : Starts) (traced : Traced) (bits : List Decided) → HasG
     → IsCaseAt s bits
 gone_is_case s traced bits has =
     let course = traced.course in
-    case_met (job_of s.job.now) s.boundary has.gone.course.elements course.cycles _ bits
+    case_with (job_of s.job.now) s.boundary bits
+    (case_met (job_of s.job.now) s.boundary has.gone.course.elements course.cycles _ bits
     (path_in traced.paths) course.run
-    course.step s.job.now.is_job has.gone.course.met
+    course.step s.job.now.is_job has.gone.course.met)
 
 -- there is a case
 pub some_case : (s : Starts) → Leads (IsCaseAt s) []
@@ -31,4 +33,5 @@ some_case s =
 pub in_order : (s : Starts) (one two : List Decided) → IsCaseAt s one → IsCaseAt s two → one ≢ two
     → IsBefore one two ⊎ IsBefore two one
 in_order s one two first second differ =
-    one_case_is_first (job_of s.job.now) s.boundary one two s.job.now.is_job first second differ
+    one_case_is_first (job_of s.job.now) s.boundary one two s.job.now.is_job
+    (case_without (job_of s.job.now) s.boundary one first) (case_without (job_of s.job.now) s.boundary two second) differ

@@ -7,11 +7,13 @@ use Rattle.std.proofs.lemmas.List.Elements.{All-nil, All-push, Contains-append_l
 use Rattle.std.proofs.lemmas.List.Quantifiers.{all_pairs_push}
 use Rattle.std.specs.List.{AllPairs}
 use Rattle.mw_term.specs.declared.decided.Decided.{Decided}
-use Rattle.mw_rel.specs.Case.{IsBefore, IsCase, case_of}
+use Rattle.mw_rel.specs.Case.{IsBefore, IsCase}
+use Rattle.mw_rel.specs.SteadyCase.{case_of}
 use Rattle.mw_rel.specs.CaseWords.{case_words}
 use Rattle.mw_rel.specs.Job.{Job, IsJob}
 use Rattle.mw_rel.specs.OverBudget.{AreNodesOver}
 use Rattle.mw_rel.proofs.Cases.{cases_meet}
+use Rattle.mw_ready.proofs.Cases.{case_without}
 use Rattle.mw_rel.proofs.Parting.{Meet, before_is_an_order, part_apart}
 use Rattle.mw_fork.specs.declared.budget.Budget.{Budget}
 use Rattle.mw_fork.specs.Faults.{ForkFault}
@@ -34,7 +36,9 @@ apart a b before same = not_before_itself b (subst (λ x. IsBefore x b) same bef
 -- two cases of a boundary are one, or they aren't
 same_or_not : (job : Job) (number : ℕ) (a b : List Decided) → IsJob job → IsCase job number a → IsCase job number b
     → (a ≡ b) ⊎ (a ≢ b)
-same_or_not job number a b is one two =
+same_or_not job number a b is first second =
+    let one = case_without job number a first in
+    let two = case_without job number b second in
     elim (subst (λ xs. Meet xs b) one.bits_are (subst (λ ys. Meet (case_of job one.start) ys) two.bits_are
     (cases_meet job number one.start two.start is one.starts two.starts))) [
       | inl same ↦ inl same

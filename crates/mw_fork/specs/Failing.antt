@@ -11,6 +11,9 @@ use Rattle.mw_rel.specs.OverBudget.{AreNodesOver}
 use Rattle.mw_rel.specs.PathWords.{comparison_word}
 use Rattle.mw_rel.specs.Sought.{IsSought}
 use Rattle.mw_rel.specs.Start.{Start}
+use Rattle.mw_rel.specs.SteadyCase.{case_of as steady_case_of}
+use Rattle.mw_rel.specs.SteadyDiffers.{difference_of as steady_difference_of}
+use Rattle.mw_rel.specs.SteadyStart.{Start as SteadyStart}
 use Rattle.mw_term.specs.Assigned.{Numbers, given_by}
 use Rattle.mw_term.specs.Cofactors.{HasAtMostCofactors}
 use Rattle.mw_term.specs.Functions.{Function}
@@ -34,8 +37,8 @@ ComparisonsAreWithin job number nodes bits =
     (c : Comparison) → Contains (case_words job number bits).comparisons c
     → HasAtMostCofactors (comparison_word job number bits c) nodes
 
--- Numbers are the first of those that are sought in a case, in the list of what there is; and each start that they
--- stand for has this case and differs.
+-- Numbers are the first of those that are sought in a case, in the list of what there is; and each start without waits
+-- that they stand for has this case and differs.
 pub record IsFound (job : Job) (number : ℕ) (elements : List ℕ) (bits : List Decided)
     (space : Space) (numbers : Numbers)
     : Type 0 where
@@ -43,10 +46,10 @@ pub record IsFound (job : Job) (number : ℕ) (elements : List ℕ) (bits : List
   pub sought : Function
   pub among : IsSought job number bits sought (list_of_space space)
   pub first : IsFirst sought numbers
-  pub of_case : (start : Start) → StandsForStart job number (ground_in space elements) (given_by numbers) start
-      → case_of job start ≡ bits
-  pub differs : (start : Start) → StandsForStart job number (ground_in space elements) (given_by numbers) start
-      → difference_of job start ≢ None
+  pub of_case : (start : SteadyStart) → StandsForStart job number (ground_in space elements) (given_by numbers) start
+      → steady_case_of job start ≡ bits
+  pub differs : (start : SteadyStart) → StandsForStart job number (ground_in space elements) (given_by numbers) start
+      → steady_difference_of job start ≢ None
 
 -- What is found of a case: nothing, where none of its starts differs, and no path operation of a comparison is over so
 -- many nodes; or what gives one that differs, the least of those that are sought.

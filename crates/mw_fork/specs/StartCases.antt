@@ -14,7 +14,7 @@ use Rattle.mw_fork.specs.declared.traced.Traced.{Traced}
 use Rattle.mw_fork.specs.declared.traced.Waiting.{Waiting}
 use Rattle.mw_course.specs.Courses.{Waits, WaitsOnCourse}
 use Rattle.mw_fork.specs.Failing.{IsFoundOf}
-use Rattle.mw_course.specs.CasePaths.{EndsEach}
+use Rattle.mw_course.specs.EndsEach.{EndsEach}
 use Rattle.mw_fork.specs.Stops.{IsDecisionOver}
 use Rattle.mw_fork.specs.Traces as traces
 use Rattle.mw_fork.specs.Traces.{HasGone, HavePaths, IsGoing}

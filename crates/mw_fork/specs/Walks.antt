@@ -12,7 +12,7 @@ use Rattle.mw_explore.specs.declared.fault.Fault.TheVariants.{Over, NoMemory}
 use Rattle.mw_fork.specs.declared.fault.Over.TheVariants.{Nodes, Paths}
 use Rattle.mw_fork.specs.declared.fork.Case.{Case}
 use Rattle.mw_explore.specs.Cases.{At}
-use Rattle.mw_course.specs.CasePaths.{EndsEach}
+use Rattle.mw_course.specs.EndsEach.{EndsEach}
 use Rattle.mw_fork.specs.Forks.{Fork, IsForkOf}
 use Rattle.mw_fork.specs.Within.{AreDecidedWithin}
 

@@ -11,7 +11,7 @@ ghost use Rattle.mw_fork.specs.Begins.{IsDiffering, IsFirstOfCase, IsLeast, IsOf
 ghost use Rattle.mw_fork.specs.declared.fault.Over.TheVariants as overs;
 ghost use Rattle.mw_fork.specs.declared.fault.Place as places;
 ghost use Rattle.mw_fork.specs.Failing.{ComparisonsAreWithin, NoneDiffersOf};
-ghost use Rattle.mw_course.specs.CasePaths.{EndsEach};
+ghost use Rattle.mw_course.specs.EndsEach.{EndsEach};
 ghost use Rattle.mw_fork.specs.Forks.{IsForkOf, IsNextCase, NoneIsToCome, OneIsToCome};
 ghost use Rattle.mw_fork.specs.Stops.{IsDecisionOver};
 ghost use Rattle.mw_fork.specs.Within.{AreDecidedWithin};

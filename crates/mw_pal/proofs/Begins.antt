@@ -9,7 +9,7 @@ use Rattle.std.proofs.lemmas.Nat.{pow_pos}
 use Rattle.mw_cycle.specs.Environment.{IsEnvironment, values_of}
 use Rattle.mw_cycle.specs.Series.{width_of}
 use Rattle.mw_cycle.specs.declared.series.Series.{Series}
-use Rattle.mw_cycle.specs.declared.series.Series.TheVariants.{Inputs, Line, Noise}
+use Rattle.mw_cycle.specs.declared.series.Series.TheVariants.{Inputs, Line, Noise, Wait}
 use Rattle.mw_expr.specs.Values.{IsImage}
 use Rattle.mw_macro.specs.DescribedStep.{AreInputs}
 use Rattle.mw_rel.specs.Begin.{IsBegin, free_elements}
@@ -91,6 +91,7 @@ list_low : (board_width word : ℕ) (inputs : List ℕ) (series : Series) (i : �
 list_low board_width word inputs Inputs i same words = subst (λ w. slice_index inputs i < 2 ^ w) same (words i)
 list_low board_width word inputs Line i same words = omega arith
 list_low board_width word inputs Noise i same words = omega arith
+list_low board_width word inputs Wait i same words = omega arith
 
 inputs_are : (job : Job) (inputs : List ℕ) → IsJob job → AreInputs job.machine inputs
     → IsEnvironment job.board (only_inputs inputs)

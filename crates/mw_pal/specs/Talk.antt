@@ -13,9 +13,9 @@ use Rattle.mw_pal.specs.Fits.{is_program_counter}
 abbrev pub first_value : Job → ℕ → ℕ
 first_value job e = if is_program_counter job e then 0o200 else 0
 
--- the line 0, no noise, and these inputs
+-- the line 0, no noise, no wait, and these inputs
 abbrev pub only_inputs : List ℕ → Environment
-only_inputs inputs = record { line = []; noise = []; inputs = inputs }
+only_inputs inputs = record { line = []; noise = []; wait = []; inputs = inputs }
 
 -- what a start is chosen by, with these inputs in place of its own
 abbrev pub with_inputs : Begin → List ℕ → Begin

@@ -1,12 +1,7 @@
+pub mod Alike
 pub mod Begins
 pub mod Cases
 pub mod Certifying
-pub mod Clocks
 pub mod Differences
-pub mod Entries
-pub mod Further
 pub mod OnLiterals
-pub mod Rests
-pub mod Steady
 pub mod Steps
-pub mod Thinning

@@ -4,12 +4,12 @@ use Rattle.mw_board.specs.Examples.{small_board, small_points}
 use Rattle.mw_board.specs.declared.bit.DFrom.TheVariants as sources
 use Rattle.mw_board.specs.declared.control.Control.TheVariants.{Field, Fixed}
 use Rattle.mw_board.specs.declared.parts.BoardParts.{BoardParts}
-use Rattle.mw_cycle.specs.Environment.{Environment}
+use Rattle.mw_cycle.specs.SteadyEnvironment.{Environment as SteadyEnvironment}
 use Rattle.mw_cycle.specs.State.{BoardState}
 use Rattle.mw_rel.specs.Examples.{sums, pair_with}
-use Rattle.mw_ready.specs.Environment.{ReadyEnvironment}
-use Rattle.mw_ready.specs.Run.{run_of_cycles, line_of_cycle}
-use Rattle.mw_ready.specs.Thinned.{thinned}
+use Rattle.mw_cycle.specs.Environment.{Environment}
+use Rattle.mw_cycle.specs.Run.{run_of, line_of_cycle}
+use Rattle.mw_cycle.specs.Thinned.{thinned}
 
 -- the small board whose D is the memory, so that each word uses it
 unfoldable pub memory_board : BoardParts
@@ -39,7 +39,7 @@ abbrev pub before_sums : BoardState
 before_sums = (pair_with (9 ∷ 8 ∷ [])).board
 
 -- clocks 0, 1 and 3 have the wait bit 1; the noise of each clock is another
-abbrev pub waiting : ReadyEnvironment
+abbrev pub waiting : Environment
 waiting = record {
   line = true ∷ false ∷ true ∷ false ∷ false ∷ true ∷ [];
   noise = 1 ∷ 2 ∷ 3 ∷ 4 ∷ 5 ∷ 6 ∷ [];
@@ -58,7 +58,7 @@ pub record Reached : Type 0 where
 -- what the run on a board has come to after n cycles
 abbrev pub reached : BoardParts → (n : ℕ) → Reached
 reached board n =
-    let run = run_of_cycles board sums waiting before_sums n in
+    let run = run_of board sums waiting before_sums n in
     record {
       cycles = run.clock.cycle;
       clocks = run.clock.clocks;
@@ -78,9 +78,9 @@ first_lines board =
     line_of_cycle board sums waiting before_sums 0 ∷ line_of_cycle board sums waiting before_sums 1 ∷ []
 
 -- the environment without the waits on a board
-abbrev pub left_of_waiting : BoardParts → Environment
+abbrev pub left_of_waiting : BoardParts → SteadyEnvironment
 left_of_waiting board = thinned board sums waiting before_sums
 
 -- these lists
-abbrev pub lists_as : List Bool → (noise : List ℕ) → Environment
+abbrev pub lists_as : List Bool → (noise : List ℕ) → SteadyEnvironment
 lists_as line noise = record { line = line; noise = noise; inputs = [] }

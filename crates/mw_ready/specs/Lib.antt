@@ -1,12 +1,3 @@
-pub mod Environment
-pub mod Run
-pub mod Boundary
-pub mod Thinned
-pub mod RunLaws
-pub mod Start
-pub mod DescribedRun
-pub mod Certified
-pub mod Differs
-pub mod Case
-pub mod StartLaws
 pub mod Examples
+pub mod StartLaws
+pub mod Thinned

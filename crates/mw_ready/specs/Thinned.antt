@@ -1,39 +1,21 @@
--- What is left of a run's environment without its waits.
-use Rattle.std.specs.Prelude.{ℕ, ◌+◌, List, [], ◌∷◌, Bool, if◌then◌else◌}
-use Rattle.mw_board.specs.declared.parts.BoardParts.{BoardParts}
-use Rattle.mw_cycle.specs.declared.environment.Clock.{Clock}
-use Rattle.mw_cycle.specs.Environment.{Environment}
-use Rattle.mw_cycle.specs.Run.{BoardRun}
-use Rattle.mw_cycle.specs.State.{BoardState}
-use Rattle.mw_ready.specs.Environment.{ReadyEnvironment, ReadyClock}
-use Rattle.mw_ready.specs.Run.{ReadyRun, is_wait, run_of_clocks}
+-- Starts without their waits.
+use Rattle.mw_cycle.specs.Thinned.{never_waiting, thinned}
+use Rattle.mw_rel.specs.Job.{Job}
+use Rattle.mw_rel.specs.Start.{Start}
+use Rattle.mw_rel.specs.SteadyStart.{Start as SteadyStart}
 
--- an environment without waits, as one that might have some
-abbrev pub never_waiting : Environment → ReadyEnvironment
-never_waiting env = record { line = env.line; noise = env.noise; wait = []; inputs = env.inputs }
-
--- a list without the entries whose numbers, counted from n, pass a test
-abbrev pub without_from : {A : Type 0} → (ℕ → Bool) → ℕ → List A → List A
-without_from test n [] = []
-without_from test n (x ∷ xs) =
-    if test n then without_from test (n + 1) xs else x ∷ without_from test (n + 1) xs
-
--- clock n of a run was a wait
-abbrev pub was_wait : BoardParts → List ℕ → ReadyEnvironment → BoardState → ℕ → Bool
-was_wait board store env start n = is_wait board store env (run_of_clocks board store env start n)
-
--- the environment without waits: its lists by clock lack the entries of the clocks that were waits
-abbrev pub thinned : BoardParts → List ℕ → ReadyEnvironment → BoardState → Environment
-thinned board store env start = record {
-  line = without_from (was_wait board store env start) 0 env.line;
-  noise = without_from (was_wait board store env start) 0 env.noise;
-  inputs = env.inputs;
+-- the start without waits: the same boundary and pair, and the thinned environment
+abbrev pub thinned_start : Job → Start → SteadyStart
+thinned_start job start = record {
+  boundary = start.boundary;
+  pair = start.pair;
+  env = thinned job.board job.store start.env start.pair.board;
 }
 
--- a run's place without its count of clocks
-abbrev pub place_of : ReadyClock → Clock
-place_of clock = record { cycle = clock.cycle; taken = clock.taken }
-
--- a run without its count of clocks
-abbrev pub but_clocks : ReadyRun → BoardRun
-but_clocks run = record { state = run.state; events = run.events; clock = place_of run.clock }
+-- a start that has no waits, as one that might
+abbrev pub always_ready : SteadyStart → Start
+always_ready start = record {
+  boundary = start.boundary;
+  pair = start.pair;
+  env = never_waiting start.env;
+}

@@ -1,6 +1,6 @@
 // Laws of starts with waits, and of what is certified over all environments.
 ghost use Rattle.mw_ready.specs.StartLaws.{CasesAreAlike, CasesAreThinned, CertifiedAlike, DifferencesAreThinned};
-ghost use Rattle.mw_ready.specs.StartLaws.{ReadyCertifiedWhereNoneDiffers, StartsDifferAsThinned};
+ghost use Rattle.mw_ready.specs.StartLaws.{CertifiedWhereNoneDiffers, StartsDifferAsThinned, StartsFollow};
 ghost use Rattle.mw_ready.specs.StartLaws.{StartsWithoutWaitsAreStarts, StepsDifferAsThinned, ThinnedAreStarts};
 
 /// The law of starts with waits: without its waits a start of a job is one of its starts without waits.
@@ -29,6 +29,12 @@ pub fn steps_differ_as_thinned()
     ensures { StepsDifferAsThinned }
 {}
 
+/// The law of the next segment: where a start shows no difference, the boundary reached, both states there and what is
+/// left of the environment are again a start of the job.
+pub fn starts_follow()
+    ensures { StartsFollow }
+{}
+
 /// The law of cases with waits: a start has as many cycles, is late, and decides what it decides, as without its waits.
 pub fn cases_are_thinned()
     ensures { CasesAreThinned }
@@ -40,8 +46,8 @@ pub fn cases_are_alike()
 {}
 
 /// The law of certification: a job is certified over all environments exactly where none of its starts differs.
-pub fn ready_certified_where_none_differs()
-    ensures { ReadyCertifiedWhereNoneDiffers }
+pub fn certified_where_none_differs()
+    ensures { CertifiedWhereNoneDiffers }
 {}
 
 /// The law of certification with waits: a job is certified over all environments exactly where it is over those without

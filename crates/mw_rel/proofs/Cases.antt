@@ -7,22 +7,24 @@ use Rattle.std.proofs.lemmas.Bool.{cases_lt}
 use Rattle.std.proofs.lemmas.List.{append_assoc, append-nil}
 use Rattle.std.proofs.lemmas.Option.{get_or_from_slice_get, slice_get_within}
 use Rattle.mw_term.specs.declared.decided.Decided.{Decided}
-use Rattle.mw_cycle.specs.Boundary.{is_named, first_boundary, first_segment, IsNextBoundary}
-use Rattle.mw_cycle.specs.Decided as runs
-use Rattle.mw_cycle.specs.Environment.{given_at}
-use Rattle.mw_cycle.specs.Run.{run_of, longer_run}
+use Rattle.mw_cycle.specs.Boundary.{is_named, first_boundary, IsNextBoundary}
+use Rattle.mw_cycle.specs.SteadyBoundary.{first_segment}
+use Rattle.mw_cycle.specs.SteadyDecided as runs
+use Rattle.mw_cycle.specs.SteadyEnvironment.{given_at}
+use Rattle.mw_cycle.specs.SteadyRun.{run_of, longer_run}
 use Rattle.mw_cycle.specs.State.{Fits}
 use Rattle.mw_cycle.proofs.Times.{next_boundary}
-use Rattle.mw_rel.specs.Case.{bits_of_cycle, bits_of_cycles, end_of, cycles_of, is_late, bits_of_step, case_of}
-use Rattle.mw_rel.specs.Case.{IsStartAt, IsCase}
-use Rattle.mw_rel.specs.CaseLaws.{AreTogether, KindsAreFixed, NoCaseGoesOn, OneCaseIsFirst, CasesHaveOneEnd}
-use Rattle.mw_rel.specs.CaseLaws.{SegmentsHaveCycles, StartsGoTogether, HasNoBoundaryYet, SegmentsEnd}
-use Rattle.mw_rel.specs.CaseLaws.{CasesBeginWithCycles}
-use Rattle.mw_rel.specs.Certified.{board_run, at_cycle}
+use Rattle.mw_rel.specs.SteadyCase.{bits_of_cycle, bits_of_cycles, end_of, cycles_of, is_late, bits_of_step, case_of}
+use Rattle.mw_rel.specs.SteadyCase.{IsStartAt, IsCase}
+use Rattle.mw_rel.specs.SteadyCaseLaws.{AreTogether, KindsAreFixed, NoCaseGoesOn, OneCaseIsFirst, CasesHaveOneEnd}
+use Rattle.mw_rel.specs.SteadyCaseLaws.{SegmentsHaveCycles, StartsGoTogether, HasNoBoundaryYet, SegmentsEnd}
+use Rattle.mw_rel.specs.SteadyCaseLaws.{CasesBeginWithCycles}
+use Rattle.mw_rel.specs.SteadyCertified.{board_run, at_cycle}
 use Rattle.mw_rel.specs.Free.{no_boundary, numbered}
 use Rattle.mw_rel.specs.Job.{Job, IsJob}
 use Rattle.mw_rel.specs.Relation.{Boundary}
-use Rattle.mw_rel.specs.Start.{Start, IsStart, addresses_of}
+use Rattle.mw_rel.specs.Start.{addresses_of}
+use Rattle.mw_rel.specs.SteadyStart.{Start, IsStart}
 use Rattle.mw_rel.proofs.Boundaries.{found_within}
 use Rattle.mw_rel.proofs.Branching.{steps_meet}
 use Rattle.mw_rel.proofs.Cycles.{run_fits}

@@ -39,15 +39,15 @@ use Rattle.mw_board.specs.Depth.{depth_of}
 use Rattle.mw_board.specs.Rules.{width_of}
 use Rattle.mw_board.specs.Valid.{IsBoard, IsPoint}
 use Rattle.mw_alu.specs.declared.answer.AluOut.{AluOut}
-use Rattle.mw_cycle.specs.declared.series.Series.TheVariants.{Inputs}
+use Rattle.mw_cycle.specs.SteadySeries.{Inputs}
 use Rattle.mw_cycle.specs.declared.microword.Microword.{Microword}
 use Rattle.mw_cycle.specs.declared.state.CycleIn.{CycleIn}
 use Rattle.mw_cycle.specs.Control.{in_field, value_at}
 use Rattle.mw_cycle.specs.Cycle.{microword_at, from_source, masked, operands_of, answer_of, direct_for, direct_address}
 use Rattle.mw_cycle.specs.Cycle.{next_address, pins_of, writes_of, flip_of, flips_from, edge, pass_of, state_after}
-use Rattle.mw_cycle.specs.Environment.{Environment, IsEnvironment, given_at}
+use Rattle.mw_cycle.specs.SteadyEnvironment.{Environment, IsEnvironment, given_at}
 use Rattle.mw_cycle.specs.Microword.{points_of}
-use Rattle.mw_cycle.specs.Run.{run_of, longer_run}
+use Rattle.mw_cycle.specs.SteadyRun.{run_of, longer_run}
 use Rattle.mw_cycle.specs.State.{BoardState, Fits}
 use Rattle.mw_cycle.proofs.Edge.{edge_fits}
 use Rattle.mw_cycle.proofs.Ranges.{short_below, bit_below}

@@ -4,18 +4,20 @@ use Rattle.std.proofs.Common.{None, find, refl, ap, ◌∙◌, subst, arith}
 use Rattle.std.specs.Prelude.{All, slice_get}
 use Rattle.std.proofs.lemmas.Bool.{eqb-true, eq-eqb, false_from_ne_true}
 use Rattle.std.proofs.lemmas.List.Elements.{All-head, All-tail}
-use Rattle.mw_cycle.specs.Run.{BoardRun}
+use Rattle.mw_cycle.specs.SteadyRun.{BoardRun}
 use Rattle.mw_macro.specs.DescribedStep.{Stepped}
 use Rattle.mw_rel.specs.declared.difference.Difference.{Difference}
 use Rattle.mw_rel.specs.declared.difference.Difference.TheVariants.{Late, Event, StackPointer, Element, Memory}
-use Rattle.mw_rel.specs.Differs.{same_event, unlike_from, first_unlike, difference_at, first_step, shown_at, shown_by}
-use Rattle.mw_rel.specs.Differs.{difference_of}
+use Rattle.mw_rel.specs.Differs.{first_difference}
+use Rattle.mw_rel.specs.Differs.{same_event, unlike_from, first_unlike}
+use Rattle.mw_rel.specs.SteadyDiffers.{difference_at, first_step, shown_at, shown_by}
+use Rattle.mw_rel.specs.SteadyDiffers.{difference_of}
 use Rattle.mw_rel.specs.InRelation.{Pair, pair_of, Holds, line_holds}
 use Rattle.mw_rel.specs.Job.{Job}
 use Rattle.mw_rel.specs.Lines.{Line}
 use Rattle.mw_rel.specs.Relation.{Boundary}
-use Rattle.mw_rel.specs.Shown.{AreUnlikeAt, IsFirstToFail, Ends, IsShownAt, IsShown, DifferencesAreFirst}
-use Rattle.mw_rel.specs.Start.{Start}
+use Rattle.mw_rel.specs.SteadyShown.{AreUnlikeAt, IsFirstToFail, Ends, IsShownAt, IsShown, DifferencesAreFirst}
+use Rattle.mw_rel.specs.SteadyStart.{Start}
 use Rattle.mw_rel.proofs.Shown.{is_shown}
 use Rattle.mw_rel.proofs.Unlike.{one_some, never_unlike, event_is, event_itself, number_itself, all_pass}
 
@@ -74,13 +76,13 @@ fails_found job pair (l ∷ rest) (suc place) line there before fails =
 
 event_found : (job : Job) (boundary : Boundary) (run : BoardRun) (step : Stepped) (n : ℕ)
     → AreUnlikeAt run.events step.events n → difference_at job boundary run step ≡ Some (Event n)
-unfolding difference_at
+unfolding first_difference
 event_found job boundary run step n differ =
     rw (first_found same_event event_is event_itself n run.events step.events differ) refl
 
 pointer_found : (job : Job) (boundary : Boundary) (run : BoardRun) (step : Stepped) → run.events ≡ step.events
     → run.state.seq.sp ≢ boundary.sp → difference_at job boundary run step ≡ Some StackPointer
-unfolding difference_at
+unfolding first_difference
 pointer_found job boundary run step events differ =
     let other : (run.state.seq.sp == boundary.sp) ≡ false = false_from_ne_true _ (λ is. differ (eqb-true _ _ is)) in
     rw (events, never_unlike same_event event_itself 0 step.events, other) refl
@@ -88,7 +90,7 @@ pointer_found job boundary run step events differ =
 element_found : (job : Job) (boundary : Boundary) (run : BoardRun) (step : Stepped) (e : ℕ) → run.events ≡ step.events
     → run.state.seq.sp ≡ boundary.sp → IsFirstToFail job (pair_of run.state step.state) boundary.lines e
     → difference_at job boundary run step ≡ Some (Element e)
-unfolding difference_at
+unfolding first_difference
 element_found job boundary run step e events sp first =
     let pair = pair_of run.state step.state in
     rw (
@@ -103,7 +105,7 @@ memory_found : (job : Job) (boundary : Boundary) (run : BoardRun) (step : Steppe
     → run.state.seq.sp ≡ boundary.sp → All (Holds job (pair_of run.state step.state)) boundary.lines
     → AreUnlikeAt run.state.memory step.state.memory a
     → difference_at job boundary run step ≡ Some (Memory a)
-unfolding difference_at
+unfolding first_difference
 memory_found job boundary run step a events sp lines differ =
     let pair = pair_of run.state step.state in
     rw (

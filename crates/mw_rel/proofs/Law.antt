@@ -3,21 +3,24 @@ use Rattle.std.proofs.Common.{◌≡◌, ℕ, zero, suc, ◌+◌, ◌<◌, ◌�
 use Rattle.std.proofs.Common.{sym, ap, ap₂, ◌∙◌, subst, add-one, inl, inr, arith}
 use Rattle.std.proofs.lemmas.Bool.{cases_lt}
 use Rattle.mw_cycle.specs.Boundary.{IsBoundary}
-use Rattle.mw_cycle.specs.Environment.{rest_at}
-use Rattle.mw_cycle.specs.Run.{BoardRun, run_of, then_run}
-use Rattle.mw_cycle.proofs.Lists.{rests_are_environments}
-use Rattle.mw_cycle.proofs.Suffix.{run_further}
+use Rattle.mw_cycle.specs.SteadyEnvironment.{rest_at}
+use Rattle.mw_cycle.specs.SteadyRun.{BoardRun, run_of, then_run}
+use Rattle.mw_cycle.proofs.SteadyLists.{rests_are_environments}
+use Rattle.mw_cycle.proofs.SteadySuffix.{run_further}
 use Rattle.mw_macro.specs.DescribedStep.{Stepped, step_of}
 use Rattle.mw_macro.specs.Laws.{inputs_in}
 use Rattle.mw_macro.proofs.Steps.{steps_take_from_first}
 use Rattle.mw_rel.specs.Relation.{Boundary}
-use Rattle.mw_rel.specs.Certified.{Certified, board_run, at_cycle, IsBoundaryOf, boundary_at, IsKept}
-use Rattle.mw_rel.specs.DescribedRun.{IsDescribedRun, before_steps, with_step}
-use Rattle.mw_rel.specs.Differs.{first_step, difference_of}
+use Rattle.mw_rel.specs.Certified.{boundary_at}
+use Rattle.mw_rel.specs.SteadyCertified.{Certified, board_run, at_cycle, IsBoundaryOf, IsKept}
+use Rattle.mw_rel.specs.DescribedRun.{before_steps}
+use Rattle.mw_rel.specs.SteadyDescribedRun.{IsDescribedRun, with_step}
+use Rattle.mw_rel.specs.SteadyDiffers.{first_step, difference_of}
 use Rattle.mw_rel.specs.InRelation.{InRelation, pair_of}
 use Rattle.mw_rel.specs.Job.{Job, IsJob}
-use Rattle.mw_rel.specs.Laws.{IsSame, NoneDiffers, CertifiedWhereNoneDiffers, StartsFollow}
-use Rattle.mw_rel.specs.Start.{Start, IsStart, addresses_of}
+use Rattle.mw_rel.specs.SteadyLaws.{IsSame, NoneDiffers, CertifiedWhereNoneDiffers, StartsFollow}
+use Rattle.mw_rel.specs.Start.{addresses_of}
+use Rattle.mw_rel.specs.SteadyStart.{Start, IsStart}
 use Rattle.mw_rel.proofs.Boundaries.{boundary_once, first_next, next_on}
 use Rattle.mw_rel.proofs.Relations.{there_is, is_there}
 use Rattle.mw_rel.proofs.Runs.{cycles_are, inputs_are, steps_take, line_left, one_step}

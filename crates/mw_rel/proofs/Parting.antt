@@ -6,7 +6,7 @@ use Rattle.mw_term.specs.declared.decided.DecidedKind.{DecidedKind}
 use Rattle.mw_term.specs.declared.decided.Decided.{Decided}
 use Rattle.mw_cycle.specs.Decided.{decided}
 use Rattle.mw_rel.specs.Case.{IsBefore, IsProperPrefix}
-use Rattle.mw_rel.specs.CaseLaws.{BeforeIsAnOrder}
+use Rattle.mw_rel.specs.SteadyCaseLaws.{BeforeIsAnOrder}
 
 -- the first place at which two lists differ has a bit of one kind
 pub record ArePart (xs ys : List Decided) : Type 0 where

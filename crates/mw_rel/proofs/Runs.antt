@@ -6,18 +6,19 @@ use Rattle.std.proofs.lemmas.List.{get_or-drop}
 use Rattle.mw_base.specs.declared.event.Event.{Event}
 use Rattle.mw_base.specs.declared.event.Event.TheVariants.{Out, Taken}
 use Rattle.mw_board.specs.declared.parts.BoardParts.{BoardParts}
-use Rattle.mw_cycle.specs.declared.environment.Clock.{Clock}
+use Rattle.mw_cycle.specs.SteadyEnvironment.{Clock}
 use Rattle.mw_cycle.specs.State.{BoardState}
 use Rattle.mw_cycle.specs.Cycle.{nets_of}
 use Rattle.mw_cycle.specs.Boundary.{IsBoundary}
-use Rattle.mw_cycle.specs.Environment.{Environment, given_at}
-use Rattle.mw_cycle.specs.Run.{clock_after, longer_run, run_of}
+use Rattle.mw_cycle.specs.SteadyEnvironment.{Environment, given_at}
+use Rattle.mw_cycle.specs.SteadyRun.{clock_after, longer_run, run_of}
 use Rattle.mw_macro.specs.DescribedStep.{Stepped, step_of}
 use Rattle.mw_macro.specs.Laws.{inputs_in}
 use Rattle.mw_macro.specs.Machine.{Description}
 use Rattle.mw_macro.specs.State.{MachineState}
 use Rattle.mw_macro.proofs.Steps.{taken_are_events}
-use Rattle.mw_rel.specs.DescribedRun.{IsDescribedRun, before_steps, with_step}
+use Rattle.mw_rel.specs.DescribedRun.{before_steps}
+use Rattle.mw_rel.specs.SteadyDescribedRun.{IsDescribedRun, with_step}
 use Rattle.mw_rel.proofs.Boundaries.{once}
 
 -- ---- how many cycles were made, and how many inputs taken

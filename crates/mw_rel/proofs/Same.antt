@@ -2,9 +2,10 @@
 use Rattle.std.proofs.Common.{◌≡◌, ℕ, ◌≤◌, false, ◌==◌, Option, Some, None, option_map, refl, ap, ◌∙◌}
 use Rattle.std.specs.Prelude.{All, slice_index, slice_index_or}
 use Rattle.std.proofs.lemmas.Bool.{eqb-true, eq-eqb}
-use Rattle.mw_cycle.specs.declared.series.Series.TheVariants.{Inputs}
-use Rattle.mw_cycle.specs.Boundary.{first_boundary, first_segment, IsNextBoundary}
-use Rattle.mw_cycle.specs.Run.{BoardRun}
+use Rattle.mw_cycle.specs.SteadySeries.{Inputs}
+use Rattle.mw_cycle.specs.Boundary.{first_boundary, IsNextBoundary}
+use Rattle.mw_cycle.specs.SteadyBoundary.{first_segment}
+use Rattle.mw_cycle.specs.SteadyRun.{BoardRun}
 use Rattle.mw_cycle.specs.State as boards
 use Rattle.mw_cycle.proofs.Times.{next_boundary}
 use Rattle.mw_rel.proofs.Cycles.{run_fits}
@@ -12,14 +13,17 @@ use Rattle.mw_macro.specs.DescribedStep.{Stepped, AreInputs}
 use Rattle.mw_rel.proofs.Steps.{step_fits}
 use Rattle.mw_macro.specs.State as machines
 use Rattle.mw_rel.specs.Relation.{Boundary}
-use Rattle.mw_rel.specs.Certified.{board_run, at_cycle, boundary_at}
+use Rattle.mw_rel.specs.Certified.{boundary_at}
+use Rattle.mw_rel.specs.SteadyCertified.{board_run, at_cycle}
+use Rattle.mw_rel.specs.Differs.{first_difference}
 use Rattle.mw_rel.specs.Differs.{same_event, event_difference, pointer_difference, line_difference, memory_difference}
-use Rattle.mw_rel.specs.Differs.{difference_at, first_step, segment_of, shown_at, shown_by, difference_of}
+use Rattle.mw_rel.specs.SteadyDiffers.{difference_at, first_step, segment_of, shown_at, shown_by, difference_of}
 use Rattle.mw_rel.specs.InRelation.{pair_of, values_of, right_value, line_holds}
 use Rattle.mw_rel.specs.Job.{Job, IsJob}
-use Rattle.mw_rel.specs.Laws.{IsSame, SameShowsNothing}
+use Rattle.mw_rel.specs.SteadyLaws.{IsSame, SameShowsNothing}
 use Rattle.mw_rel.specs.Lines.{Line}
-use Rattle.mw_rel.specs.Start.{Start, IsStart, addresses_of}
+use Rattle.mw_rel.specs.Start.{addresses_of}
+use Rattle.mw_rel.specs.SteadyStart.{Start, IsStart}
 use Rattle.mw_rel.proofs.Boundaries.{found_within}
 use Rattle.mw_rel.proofs.Relations.{is_at}
 use Rattle.mw_rel.proofs.Unlike.{same_lists, never_unlike, event_is, event_itself, number_itself, nothing_made}
@@ -69,7 +73,7 @@ pub record Agree (job : Job) (boundary : Boundary) (run : BoardRun) (step : Step
 agree_at : (job : Job) (boundary : Boundary) (run : BoardRun) (step : Stepped)
     → difference_at job boundary run step ≡ None
     → Agree job boundary run step
-unfolding difference_at
+unfolding first_difference
 agree_at job boundary run step none =
     let pair = pair_of run.state step.state in
     let one = first_none (event_difference run.events step.events) _ none in
@@ -88,7 +92,7 @@ agree_at job boundary run step none =
 
 nothing_at : (job : Job) (boundary : Boundary) (run : BoardRun) (step : Stepped) → Agree job boundary run step
     → difference_at job boundary run step ≡ None
-unfolding difference_at
+unfolding first_difference
 nothing_at job boundary run step agree =
     let pair = pair_of run.state step.state in
     rw (

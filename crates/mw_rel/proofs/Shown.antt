@@ -6,19 +6,22 @@ use Rattle.std.specs.Prelude.{All, slice_get, if◌then◌else◌}
 use Rattle.std.proofs.lemmas.Bool.{eqb-true, eq-eqb}
 use Rattle.std.proofs.lemmas.List.Elements.{All-nil, All-cons}
 use Rattle.mw_cycle.specs.Boundary.{is_named}
-use Rattle.mw_cycle.specs.Run.{BoardRun}
+use Rattle.mw_cycle.specs.SteadyRun.{BoardRun}
 use Rattle.mw_rel.specs.declared.difference.Difference.{Difference}
 use Rattle.mw_rel.specs.declared.difference.Difference.TheVariants.{Late, Event, StackPointer, Element, Memory}
 use Rattle.mw_rel.specs.Certified.{boundary_at}
+use Rattle.mw_rel.specs.Differs.{first_difference}
 use Rattle.mw_rel.specs.Differs.{same_event, unlike_from, first_unlike, event_difference, pointer_difference}
-use Rattle.mw_rel.specs.Differs.{line_difference, memory_difference, first_of, difference_at, first_step, segment_of}
-use Rattle.mw_rel.specs.Differs.{shown_at, shown_by, difference_of}
+use Rattle.mw_rel.specs.Differs.{line_difference, memory_difference, first_of}
+use Rattle.mw_rel.specs.SteadyDiffers.{difference_at, first_step, segment_of}
+use Rattle.mw_rel.specs.SteadyDiffers.{shown_at, shown_by, difference_of}
 use Rattle.mw_rel.specs.InRelation.{Pair, pair_of, Holds, line_holds}
 use Rattle.mw_rel.specs.Job.{Job}
 use Rattle.mw_rel.specs.Lines.{Line}
 use Rattle.mw_rel.specs.Relation.{Boundary}
-use Rattle.mw_rel.specs.Shown.{AreUnlikeAt, IsFirstToFail, Ends, IsShownAt, IsShown}
-use Rattle.mw_rel.specs.Start.{Start, addresses_of}
+use Rattle.mw_rel.specs.SteadyShown.{AreUnlikeAt, IsFirstToFail, Ends, IsShownAt, IsShown}
+use Rattle.mw_rel.specs.Start.{addresses_of}
+use Rattle.mw_rel.specs.SteadyStart.{Start}
 use Rattle.mw_rel.proofs.Same.{segment}
 use Rattle.mw_rel.proofs.Unlike.{same_lists, event_is, event_itself, number_itself, nothing_made, pointer_is}
 use Rattle.mw_rel.proofs.Unlike.{none_fails}
@@ -152,7 +155,7 @@ lines_hold job pair lines none = none_fails (line_holds job pair) (Holds job pai
 
 shown_there : (job : Job) (start : Start) (run : BoardRun) (reached : Boundary) (d : Difference)
     → difference_at job reached run (first_step job start) ≡ Some d → IsShownAt job start run reached d
-unfolding difference_at
+unfolding first_difference
 shown_there job start run reached d is =
     let step = first_step job start in
     let pair = pair_of run.state step.state in

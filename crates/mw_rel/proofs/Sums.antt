@@ -1,10 +1,11 @@
 -- Where no start differs, boundaries come within the sum of the bounds met.
 use Rattle.std.proofs.Common.{◌≡◌, ℕ, zero, suc, ◌+◌, ◌≤◌, subst, add-one, arith}
 use Rattle.mw_cycle.specs.Boundary.{IsBoundary}
-use Rattle.mw_rel.specs.Certified.{at_cycle, IsKept}
+use Rattle.mw_rel.specs.SteadyCertified.{at_cycle, IsKept}
 use Rattle.mw_rel.specs.Job.{Job}
-use Rattle.mw_rel.specs.Laws.{IsSumOfBounds, ComesInTime, BoundariesComeInTime}
-use Rattle.mw_rel.specs.Start.{Start, addresses_of}
+use Rattle.mw_rel.specs.SteadyLaws.{IsSumOfBounds, ComesInTime, BoundariesComeInTime}
+use Rattle.mw_rel.specs.Start.{addresses_of}
+use Rattle.mw_rel.specs.SteadyStart.{Start}
 use Rattle.mw_rel.proofs.Boundaries.{boundary_once}
 use Rattle.mw_rel.proofs.Law.{kept_each}
 

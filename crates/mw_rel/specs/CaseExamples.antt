@@ -5,7 +5,7 @@ use Rattle.mw_cycle.specs.Decided.{decided}
 use Rattle.mw_expr.specs.Tree.{Tree, element, part}
 use Rattle.mw_macro.specs.Machine.{Description}
 use Rattle.mw_macro.specs.Statements.{Act, choose, assign, nothing, acts_of}
-use Rattle.mw_rel.specs.Case.{case_of}
+use Rattle.mw_rel.specs.SteadyCase.{case_of}
 use Rattle.mw_rel.specs.Examples.{machine_with, sum_into, small_job, start_with}
 use Rattle.mw_rel.specs.Job.{Job}
 use Rattle.mw_term.specs.declared.decided.DecidedKind.TheVariants.{Next}

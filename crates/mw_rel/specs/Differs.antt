@@ -1,6 +1,6 @@
 -- When a start differs: by the first difference between the board's first segment and one described step.
 use Rattle.std.specs.Prelude.{◌≡◌, ℕ, ◌+◌, List, [], ◌∷◌, Bool, false, not, find, if◌then◌else◌, ◌==◌, Option, Some}
-use Rattle.std.specs.Prelude.{None, option_map, slice_index_or}
+use Rattle.std.specs.Prelude.{None, option_map}
 use Rattle.mw_base.specs.declared.event.Event.{Event}
 use Rattle.mw_base.specs.declared.event.Event.TheVariants.{Out, Taken}
 use Rattle.mw_cycle.specs.Boundary.{first_segment}
@@ -11,7 +11,7 @@ use Rattle.mw_macro.specs.DescribedStep.{Stepped, step_of}
 use Rattle.mw_rel.specs.Relation.{Boundary}
 use Rattle.mw_rel.specs.declared.difference.Difference.{Difference}
 use Rattle.mw_rel.specs.declared.difference.Difference.TheVariants as differences
-use Rattle.mw_rel.specs.Certified.{boundary_at}
+use Rattle.mw_rel.specs.Certified.{boundary_at, line_at}
 use Rattle.mw_rel.specs.InRelation.{Pair, pair_of, line_holds}
 use Rattle.mw_rel.specs.Job.{Job}
 use Rattle.mw_rel.specs.Start.{Start, IsStart, addresses_of}
@@ -56,18 +56,24 @@ first_of [] = None
 first_of (None ∷ others) = first_of others
 first_of (Some difference ∷ others) = Some difference
 
--- the first difference at the boundary reached: an event, the stack pointer, a line, a memory word
-unfoldable pub difference_at : Job → Boundary → BoardRun → Stepped → Option Difference
-difference_at job boundary run step = first_of
-    (event_difference run.events step.events
-    ∷ pointer_difference boundary run.state
-    ∷ line_difference job boundary (pair_of run.state step.state)
-    ∷ memory_difference run.state.memory step.state.memory
+-- the first difference at a boundary, between the board's events and its state there and a step: an event, the stack
+-- pointer, a line, a memory word
+unfoldable pub first_difference : Job → Boundary → List Event → BoardState → Stepped → Option Difference
+first_difference job boundary events state step = first_of
+    (event_difference events step.events
+    ∷ pointer_difference boundary state
+    ∷ line_difference job boundary (pair_of state step.state)
+    ∷ memory_difference state.memory step.state.memory
     ∷ [])
 
--- the described step of a start: its request is the line in the segment's first cycle, and its inputs begin at number 0
+-- that of a run
+abbrev pub difference_at : Job → Boundary → BoardRun → Stepped → Option Difference
+difference_at job boundary run step = first_difference job boundary run.events run.state step
+
+-- the described step of a start: its request is the line of the clock that makes the segment's first cycle, and its
+-- inputs begin at number 0
 abbrev pub first_step : Job → Start → Stepped
-first_step job start = step_of job.machine start.pair.machine (slice_index_or start.env.line 0 false) start.env.inputs 0
+first_step job start = step_of job.machine start.pair.machine (line_at job start 0) start.env.inputs 0
 
 -- a start's first segment, where it keeps its bound; nothing where the bound's number of cycles passes without a
 -- boundary
@@ -106,8 +112,10 @@ start_after job start run boundary = record {
 -- a start of the job differs at a step, counted from 1: the steps before show no difference, and this one, from its
 -- own boundary, differs
 pub data DiffersAt (job : Job) : Start → ℕ → Difference → Type 0 where
-  here : (start : Start) (difference : Difference) → Differs job start difference → DiffersAt job start 1 difference
+  here : (start : Start) (difference : Difference) → Differs job start difference
+      → DiffersAt job start 1 difference
   later : (start : Start) (run : BoardRun) (boundary : Boundary) (step : ℕ) (difference : Difference)
       → IsStart job start → difference_of job start ≡ None
       → segment_of job start ≡ Some run → boundary_at job run.state.at ≡ Some boundary
-      → DiffersAt job (start_after job start run boundary) step difference → DiffersAt job start (step + 1) difference
+      → DiffersAt job (start_after job start run boundary) step difference
+      → DiffersAt job start (step + 1) difference

@@ -1,20 +1,20 @@
--- Six worked starts of jobs on one small board, as values on which the definitions compute.
+-- Six worked starts of jobs on one small board, whose runs never wait, as values on which the definitions compute.
 use Rattle.std.specs.Prelude.{ℕ, ◌+◌, ◌-◌, List, [], ◌∷◌, ◌++◌, codes, length, map, replicate, Option}
 use Rattle.mw_board.specs.Examples.{small_board}
 use Rattle.mw_cycle.specs.Boundary.{numbers}
-use Rattle.mw_cycle.specs.Environment.{no_values}
+use Rattle.mw_cycle.specs.SteadyEnvironment.{no_values}
 use Rattle.mw_expr.specs.declared.expr.Pair2.TheVariants.{Add}
 use Rattle.mw_expr.specs.Tree.{element, constant, pair}
 use Rattle.mw_macro.specs.Machine.{Description}
 use Rattle.mw_macro.specs.Statements.{Act, assign, acts_of}
 use Rattle.mw_rel.specs.declared.difference.Difference.{Difference}
-use Rattle.mw_rel.specs.Differs.{difference_of}
+use Rattle.mw_rel.specs.SteadyDiffers.{difference_of}
 use Rattle.mw_rel.specs.Free.{numbered}
 use Rattle.mw_rel.specs.InRelation.{Pair}
 use Rattle.mw_rel.specs.Job.{Job, shape_of, job_with}
 use Rattle.mw_rel.specs.Lines.{Line}
 use Rattle.mw_rel.specs.Relation.{Boundary, related}
-use Rattle.mw_rel.specs.Start.{Start}
+use Rattle.mw_rel.specs.SteadyStart.{Start}
 
 -- register x takes y + z
 abbrev pub sum_into : ℕ → ℕ → ℕ → Act

@@ -2,7 +2,6 @@ pub mod Begin
 pub mod BitOperations
 pub mod Case
 pub mod CaseExamples
-pub mod CaseLaws
 pub mod CaseWords
 pub mod Certified
 pub mod ComparisonWords
@@ -13,7 +12,6 @@ pub mod Examples
 pub mod Free
 pub mod InRelation
 pub mod Job
-pub mod Laws
 pub mod Lines
 pub mod OneProof
 pub mod OverBudget
@@ -21,9 +19,16 @@ pub mod PathWords
 pub mod Relation
 pub mod Rules
 pub mod Seen
-pub mod Shown
 pub mod Sought
 pub mod Start
 pub mod StartWords
+pub mod SteadyCase
+pub mod SteadyCaseLaws
+pub mod SteadyCertified
+pub mod SteadyDescribedRun
+pub mod SteadyDiffers
+pub mod SteadyLaws
+pub mod SteadyShown
+pub mod SteadyStart
 pub mod Views
 pub mod WordExamples

@@ -1,6 +1,7 @@
 pub mod Shown
 pub mod Starts
 pub mod Steps
+pub mod Requests
 pub mod Unlike
 pub mod Settables
 pub mod Numbers

@@ -9,7 +9,7 @@ use Rattle.std.proofs.lemmas.List.Elements.{All-weaker}
 use Rattle.std.proofs.lemmas.Nat.{pow_pos}
 use Rattle.mw_board.specs.declared.parts.BoardParts.{BoardParts}
 use Rattle.mw_cycle.specs.declared.series.Series.{Series}
-use Rattle.mw_cycle.specs.declared.series.Series.TheVariants.{Inputs, Line, Noise}
+use Rattle.mw_cycle.specs.declared.series.Series.TheVariants.{Inputs, Line, Noise, Wait}
 use Rattle.mw_cycle.specs.Environment.{Environment, IsEnvironment, no_values, values_of}
 use Rattle.mw_cycle.specs.Trimmed.{shortened, trimmed}
 use Rattle.mw_cycle.specs.Environment.{with_values}
@@ -44,11 +44,13 @@ keyword_plain : (series : Series) → list_all is_plain (keyword_of series) ≡ 
 keyword_plain Inputs = refl
 keyword_plain Line = refl
 keyword_plain Noise = refl
+keyword_plain Wait = refl
 
 keyword_short : (series : Series) → length (keyword_of series) ≤ 64
 keyword_short Inputs = lit≤ tt
 keyword_short Line = lit≤ tt
 keyword_short Noise = lit≤ tt
+keyword_short Wait = lit≤ tt
 
 -- the lines of a list that has no values before them
 list_go : (P : Settings → Type 0) (width : ℕ) (elements : List Settable) (text rest memory : List ℕ)
@@ -111,9 +113,11 @@ lists_go P board elements text env memory written values set narrow is short so 
     let kept = λ (series : Series). trimmed (values_of env series) in
     let one = with_values Inputs (kept Inputs) no_values in
     let two = with_values Line (kept Line) one in
+    let three = with_values Noise (kept Noise) two in
     let go = λ (series : Series) (rest : List ℕ) (before : Environment).
     list_go P board.width elements text rest memory written before values set series (kept series) narrow
     (list_below board env series is) (list_short board env series is short) in
     go Inputs _ no_values refl
     (go Line _ one refl
-    (go Noise [] two refl (end_goes P step text (given_with memory written (shortened env) values set) so)))
+    (go Noise _ two refl
+    (go Wait [] three refl (end_goes P step text (given_with memory written (shortened env) values set) so))))

@@ -1,6 +1,6 @@
 -- The segment of a replay: where it ends, and what is compared there.
-use Rattle.std.proofs.Common.{◌≡◌, ℕ, zero, suc, ◌<◌, ◌≤◌, List, [], ◌∷◌, drop, length, Option, Some, None}
-use Rattle.std.proofs.Common.{option_map, Bool, false, slice_index_or, refl, sym, ap, ap₂, ◌∙◌, subst, arith}
+use Rattle.std.proofs.Common.{◌≡◌, ℕ, zero, suc, ◌<◌, ◌≤◌, List, [], ◌∷◌, length, Option, Some, None}
+use Rattle.std.proofs.Common.{option_map, Bool, refl, sym, ap, ap₂, ◌∙◌, subst, arith}
 use Rattle.std.specs.Option.{option_to_list}
 use Rattle.std.proofs.lemmas.List.{length-append}
 use Rattle.mw_base.specs.declared.event.Event.{Event}
@@ -8,10 +8,15 @@ use Rattle.mw_base.specs.declared.event.Event.TheVariants.{Out, Taken}
 use Rattle.mw_board.specs.declared.parts.BoardParts.{BoardParts}
 use Rattle.mw_cycle.specs.declared.environment.Clock.{Clock}
 use Rattle.mw_cycle.specs.Cycle.{nets_of}
-use Rattle.mw_cycle.specs.Environment.{Environment, given_at, rest_at}
-use Rattle.mw_cycle.specs.Run.{BoardRun, longer_run, run_of, then_run}
+use Rattle.mw_cycle.specs.Environment.{Environment, rest_at}
+use Rattle.mw_cycle.specs.Run.{BoardRun, line_of_cycle, then_run}
 use Rattle.mw_cycle.specs.State.{BoardState}
+use Rattle.mw_cycle.specs.SteadyEnvironment.{Environment as SteadyEnvironment, given_at}
+use Rattle.mw_cycle.specs.SteadyRun.{BoardRun as SteadyRun, longer_run, run_of}
+use Rattle.mw_cycle.specs.Thinned.{but_clocks, thinned}
+use Rattle.mw_cycle.proofs.Clocks.{cycles_come}
 use Rattle.mw_cycle.proofs.Lists.{rest_further}
+use Rattle.mw_cycle.proofs.Thinning.{runs_are_thinned}
 use Rattle.mw_macro.specs.DescribedStep.{Stepped, step_of}
 use Rattle.mw_macro.specs.Laws.{inputs_in}
 use Rattle.mw_macro.specs.State.{MachineState}
@@ -24,9 +29,9 @@ use Rattle.mw_rel.specs.Job.{Job, IsJob}
 use Rattle.mw_rel.specs.Relation.{Boundary}
 use Rattle.mw_rel.specs.Start.{Start, addresses_of}
 use Rattle.mw_macro.proofs.Steps.{steps_take_from_first}
-use Rattle.mw_rel.proofs.Runs.{cycles_are, inputs_are, line_left}
-use Rattle.mw_rel.proofs.Same.{segment}
-use Rattle.mw_sim.specs.Run.{run_at, segment_after}
+use Rattle.mw_rel.proofs.Runs.{inputs_are}
+use Rattle.mw_ready.proofs.Differences.{segment_ran}
+use Rattle.mw_sim.specs.Run.{AreFew, run_at, segment_after}
 use Rattle.mw_replay.specs.CounterText.{number_at}
 use Rattle.mw_replay.specs.Replay.{Follows, IsReplay, Replay, next_start, step_with}
 use Rattle.mw_replay.specs.Segment.{Ended, IsShort}
@@ -36,13 +41,14 @@ use Rattle.mw_replay.proofs.Steps.{next_is_start}
 -- ---- the described step
 
 -- the step that takes what is left is that over what is left
-pub step_is : (job : Job) (m state : MachineState) (env : Environment) (clock : Clock) (request : Bool)
-    (inputs : List ℕ) → m ≡ state → request ≡ slice_index_or env.line clock.cycle false → inputs ≡ env.inputs
-    → step_of job.machine m request inputs clock.taken ≡ step_with job state (rest_at env clock)
-step_is job m state env clock request inputs one two three =
-    let line = slice_index_or env.line clock.cycle false in
-    rw (one, two, three) (steps_take_from_first job.machine state line env.inputs clock.taken
-    ∙ ap (λ (b : Bool). step_of job.machine state b (drop clock.taken env.inputs) 0) (sym (line_left env clock.cycle)))
+pub step_is : (job : Job) (first : BoardState) (m : MachineState) (pair : Pair) (env : Environment) (clock : Clock)
+    (request : Bool) (inputs : List ℕ) → pair_of first m ≡ pair
+    → request ≡ line_of_cycle job.board job.store (rest_at env clock) first 0 → inputs ≡ env.inputs
+    → step_of job.machine m request inputs clock.taken ≡ step_with job pair (rest_at env clock)
+step_is job first m pair env clock request inputs one two three =
+    let line = line_of_cycle job.board job.store (rest_at env clock) first 0 in
+    rw (two, three) (steps_take_from_first job.machine m line env.inputs clock.taken)
+    ∙ ap (λ (p : Pair). step_with job p (rest_at env clock)) one
 
 -- ---- how far a segment comes
 
@@ -50,8 +56,8 @@ one_at_most : (event : Option Event) → length (option_to_list event) ≤ 1
 one_at_most (Some event) = omega arith
 one_at_most None = omega arith
 
--- a run has no more events than cycles
-events_few : (board : BoardParts) (store : List ℕ) (env : Environment) (start : BoardState) (n : ℕ)
+-- a run without waits has no more events than cycles
+events_few : (board : BoardParts) (store : List ℕ) (env : SteadyEnvironment) (start : BoardState) (n : ℕ)
     → length (run_of board store env start n).events ≤ n
 unfolding run_of longer_run
 events_few board store env start zero = omega arith
@@ -94,24 +100,30 @@ pub late_by : (first : BoardRun) (there : Option BoardRun) → option_map (then_
 late_by first (Some run) none = cc
 late_by first None none = refl
 
--- how far it comes
+-- how far it comes: its events and its inputs are those of the run without its waits
 pub short : (job : Job) (start : Start) (place : Clock) (s : BoardState) (es : List Event) (end : Clock)
-    → Ended job start place s es end → start.boundary.bound ≤ 500 → IsShort place es end
-short job start place s es end is most =
-    let ran = segment job start is.run is.segment in
-    let n = ran.cycles in
+    → Ended job start place s es end → start.boundary.bound ≤ 500 → AreFew place.clocks 500 end.clocks
+    → IsShort place es end
+short job start place s es end is most clocks =
+    let made = segment_ran job start is.run is.segment in
+    let n = made.cycles in
+    let thin = thinned job.board job.store start.env start.pair.board in
+    let same : but_clocks is.run ≡ run_of job.board job.store thin start.pair.board n =
+    ap but_clocks (sym made.is) ∙ runs_are_thinned job.board job.store start.env start.pair.board n in
     let events : length is.run.events ≤ n =
-    subst (λ (r : BoardRun). length r.events ≤ n) (sym ran.is)
-    (events_few job.board job.store start.env start.pair.board n) in
+    subst (λ (r : SteadyRun). length r.events ≤ n) (sym same)
+    (events_few job.board job.store thin start.pair.board n) in
     let cycle : is.run.clock.cycle ≡ n =
-    ap (λ (r : BoardRun). r.clock.cycle) ran.is ∙ cycles_are job.board job.store start.env start.pair.board n in
+    ap (λ (r : BoardRun). r.clock.cycle) (sym made.is)
+    ∙ (cycles_come job.board job.store start.env start.pair.board n).made in
     let taken : is.run.clock.taken ≡ inputs_in is.run.events =
-    subst (λ (r : BoardRun). r.clock.taken ≡ inputs_in r.events) (sym ran.is)
-    (inputs_are job.board job.store start.env start.pair.board n) in
+    subst (λ (r : SteadyRun). r.clock.taken ≡ inputs_in r.events) (sym same)
+    (inputs_are job.board job.store thin start.pair.board n) in
     record {
-      few = omega (arith, ap (λ (e : List Event). length e) is.events, ran.within, most);
-      cycle = omega (arith, ap (λ (c : Clock). c.cycle) is.clock, ran.within, most);
-      taken = omega (arith, ap (λ (c : Clock). c.taken) is.clock, inputs_few is.run.events, ran.within, most);
+      few = omega (arith, ap (λ (e : List Event). length e) is.events, made.within, most);
+      cycle = omega (arith, ap (λ (c : Clock). c.cycle) is.clock, made.within, most);
+      taken = omega (arith, ap (λ (c : Clock). c.taken) is.clock, inputs_few is.run.events, made.within, most);
+      clocks = clocks;
     }
 
 -- ---- what is shown

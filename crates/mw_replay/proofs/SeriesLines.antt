@@ -20,7 +20,7 @@ use Rattle.mw_base.specs.Steps.{steps}
 use Rattle.mw_base.specs.Symbols.{spelled, symbol_of}
 use Rattle.mw_base.proofs.Results.{ok_of}
 use Rattle.mw_cycle.specs.declared.series.Series.{Series}
-use Rattle.mw_cycle.specs.declared.series.Series.TheVariants.{Inputs, Line, Noise}
+use Rattle.mw_cycle.specs.declared.series.Series.TheVariants.{Inputs, Line, Noise, Wait}
 use Rattle.mw_cycle.specs.Environment.{Environment, values_of, with_values}
 use Rattle.mw_cycle.specs.Series.{keyword_of as series_keyword, series_named, width_of}
 use Rattle.mw_cycle.proofs.Lists.{behind_again, behind_length, none_behind}
@@ -141,11 +141,13 @@ unfolding series_named
 statement_is line first rest Inputs is = rw is refl
 statement_is line first rest Line is = rw is refl
 statement_is line first rest Noise is = rw is refl
+statement_is line first rest Wait is = rw is refl
 
 keyword_spelled : (series : Series) → is_spelled_as_name (series_keyword series) ≡ true
 keyword_spelled Inputs = refl
 keyword_spelled Line = refl
 keyword_spelled Noise = refl
+keyword_spelled Wait = refl
 
 pub series_gives : (elements : List Settable) (width : ℕ) (series : Series) (text rest values : List ℕ)
     (number start : ℕ) (given : Settings)

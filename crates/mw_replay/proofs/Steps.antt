@@ -1,12 +1,12 @@
 -- Steps from a start.
-use Rattle.std.proofs.Common.{◌≡◌, ℕ, zero, suc, ◌+◌, Option, Some, None, refl, sym, ◌∙◌, subst, arith}
+use Rattle.std.proofs.Common.{◌≡◌, ℕ, zero, suc, ◌+◌, Option, Some, None, refl, sym, subst, ◌∙◌, arith}
 use Rattle.mw_cycle.specs.Run.{BoardRun}
 use Rattle.mw_rel.specs.declared.difference.Difference.{Difference}
 use Rattle.mw_rel.specs.Certified.{boundary_at}
 use Rattle.mw_rel.specs.Differs.{difference_of, start_after, DiffersAt}
 use Rattle.mw_rel.specs.Job.{Job, IsJob}
 use Rattle.mw_rel.specs.Start.{Start, IsStart}
-use Rattle.mw_rel.proofs.Law.{starts_follow}
+use Rattle.mw_ready.proofs.Steps.{starts_follow}
 use Rattle.mw_replay.specs.Laws.{NoneDiffersBefore, StepsDiffer}
 use Rattle.mw_replay.specs.Replay.{Follows, IsReached}
 

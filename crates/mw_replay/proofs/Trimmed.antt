@@ -9,7 +9,7 @@ use Rattle.mw_base.specs.Words.{num}
 use Rattle.mw_cycle.specs.declared.state.CycleIn.{CycleIn}
 use Rattle.mw_cycle.specs.Environment.{Environment}
 use Rattle.mw_cycle.specs.Trimmed.{before_trimmed, shortened, trimmed, EndsWell}
-use Rattle.mw_cycle.specs.declared.series.Series.TheVariants.{Inputs, Line, Noise}
+use Rattle.mw_cycle.specs.declared.series.Series.TheVariants.{Inputs, Line, Noise, Wait}
 use Rattle.mw_cycle.proofs.Lists.{bits_back, bits_below, kept_front, numbers_back, trimmed_below}
 use Rattle.mw_replay.specs.Laws.{NothingIsCut, ZerosGiveNothing}
 
@@ -44,6 +44,8 @@ shortened_once env =
       bits_trimmed env.line,
       trimmed_once (map num env.line),
       trimmed_once env.noise,
+      bits_trimmed env.wait,
+      trimmed_once (map num env.wait),
       trimmed_once env.inputs,
     ) refl
 
@@ -83,17 +85,22 @@ given : (noise other : ℕ) (line bit : Bool) (input word : ℕ) → noise ≡ o
     → cycle_in noise line input ≡ cycle_in other bit word
 given noise other line bit input word one two three = rw (one, two, three) refl
 
+-- a bit of a list without the zeros at its end
+bit_same : (bits : List Bool) (n : ℕ)
+    → slice_index_or (map (λ bit. bit == 1) (trimmed (map num bits))) n false ≡ slice_index_or bits n false
+bit_same bits n =
+    bit_at (trimmed (map num bits)) n ∙ ap (λ n. n == 1) (trimmed_same (map num bits) n) ∙ number_at bits n
+
 pub zeros_give_nothing : ZerosGiveNothing
 unfolding cycle_in
-zeros_give_nothing env place =
-    let line = env.line in
-    given (slice_index (trimmed env.noise) place.cycle) (slice_index env.noise place.cycle)
-    (slice_index_or (map (λ bit. bit == 1) (trimmed (map num line))) place.cycle false)
-    (slice_index_or line place.cycle false) (slice_index (trimmed env.inputs) place.taken)
-    (slice_index env.inputs place.taken) (trimmed_same env.noise place.cycle)
-    (bit_at (trimmed (map num line)) place.cycle
-    ∙ ap (λ n. n == 1) (trimmed_same (map num line) place.cycle) ∙ number_at line place.cycle)
-    (trimmed_same env.inputs place.taken)
+zeros_give_nothing env place = (
+  given (slice_index (trimmed env.noise) place.clocks) (slice_index env.noise place.clocks)
+      (slice_index_or (map (λ bit. bit == 1) (trimmed (map num env.line))) place.clocks false)
+      (slice_index_or env.line place.clocks false) (slice_index (trimmed env.inputs) place.taken)
+      (slice_index env.inputs place.taken) (trimmed_same env.noise place.clocks) (bit_same env.line place.clocks)
+      (trimmed_same env.inputs place.taken),
+  bit_same env.wait place.clocks,
+)
 
 -- ---- with no 0 at its end a list stays
 
@@ -107,5 +114,7 @@ nothing_is_cut env is =
       trimmed_stays (map num env.line) (is Line),
       bits_back env.line,
       trimmed_stays env.noise (is Noise),
+      trimmed_stays (map num env.wait) (is Wait),
+      bits_back env.wait,
       trimmed_stays env.inputs (is Inputs),
     ) refl

@@ -1,23 +1,27 @@
 -- Zeros at the ends of an environment's lists change no difference.
-use Rattle.std.proofs.Common.{◌≡◌, ℕ, zero, suc, ◌+◌, List, [], ◌∷◌, slice_index, slice_index_or, Bool, false, cond}
-use Rattle.std.proofs.Common.{Option, Some, None, option_map, find, refl, ap, ap₂, ◌∙◌}
+use Rattle.std.proofs.Common.{◌≡◌, ℕ, zero, suc, ◌+◌, ◌-◌, ◌<◌, List, [], ◌∷◌, slice_index, slice_index_or, Bool, false}
+use Rattle.std.proofs.Common.{cond, Option, Some, None, option_map, find, refl, sym, ap, ap₂, ◌∙◌, subst}
 use Rattle.mw_board.specs.declared.parts.BoardParts.{BoardParts}
 use Rattle.std.specs.Prelude.{◌++◌, ◌==◌, if◌then◌else◌}
 use Rattle.std.specs.Option.{option_to_list}
 use Rattle.mw_cycle.specs.declared.environment.Clock.{Clock}
 use Rattle.mw_cycle.specs.declared.state.CycleIn.{CycleIn}
 use Rattle.mw_cycle.specs.Boundary.{first_segment, is_named, numbers}
-use Rattle.mw_cycle.specs.Cycle.{nets_of, state_after}
-use Rattle.mw_cycle.specs.Environment.{Environment, at_start, given_at}
+use Rattle.mw_cycle.specs.Cycle.{nets_of, state_after, waits_in}
+use Rattle.mw_cycle.specs.Environment.{Environment, given_at, wait_bit}
 use Rattle.mw_cycle.specs.Trimmed.{shortened}
-use Rattle.mw_cycle.specs.Run.{BoardRun, clock_after, longer_run, run_of}
+use Rattle.mw_cycle.specs.Run.{BoardRun, clock_after, clock_making, clocks_for, cycles_in, line_of_cycle, run_of}
+use Rattle.mw_cycle.specs.Run.{run_of_clocks, with_clock, with_cycle, with_wait}
 use Rattle.mw_cycle.specs.State.{BoardState}
+use Rattle.mw_cycle.proofs.Clocks.{cycles_come}
+use Rattle.mw_cycle.proofs.Further.{clocks_are_one}
 use Rattle.mw_expr.specs.declared.shape.Shape.{Shape}
 use Rattle.mw_expr.specs.Values.{value}
 use Rattle.mw_macro.specs.DescribedStep.{Now, after, after_all, begun, ended, step_of, taken_in}
 use Rattle.mw_macro.specs.Machine.{Description}
 use Rattle.mw_macro.specs.State.{MachineState}
 use Rattle.mw_macro.specs.Statements.{Act, Acts, assign, choose, next, nothing, put, take_in, write}
+use Rattle.mw_rel.specs.Certified.{line_at}
 use Rattle.mw_rel.specs.Differs.{difference_at, difference_of, first_step, segment_of, shown_at, shown_by}
 use Rattle.mw_rel.specs.Job.{Job}
 use Rattle.mw_rel.specs.Relation.{Boundary}
@@ -25,31 +29,65 @@ use Rattle.mw_rel.specs.Start.{Start, addresses_of}
 use Rattle.mw_replay.specs.Laws.{ZerosShowNothing}
 use Rattle.mw_replay.proofs.Trimmed.{zeros_give_nothing}
 
--- one environment gives a run the same in each cycle as another
+-- one environment gives each clock the same as another
 abbrev GivesTheSame : Environment → Environment → Type 0
-GivesTheSame one other = (place : Clock) → given_at one place ≡ given_at other place
+GivesTheSame one other =
+    (place : Clock) → (given_at one place ≡ given_at other place) × (wait_bit one place ≡ wait_bit other place)
 
 -- ---- runs
 
-longer_by : BoardParts → List ℕ → BoardRun → CycleIn → BoardRun
-longer_by board store run given = record {
+cycle_by : BoardParts → List ℕ → BoardRun → CycleIn → BoardRun
+cycle_by board store run given = record {
   state = state_after board store run.state given;
   events = run.events ++ option_to_list (nets_of board store run.state given).event;
   clock = clock_after (nets_of board store run.state given).event run.clock;
 }
 
-longer_same : (board : BoardParts) (store : List ℕ) (one other : Environment) (run : BoardRun) → GivesTheSame one other
-    → longer_run board store one run ≡ longer_run board store other run
-unfolding longer_run longer_by
-longer_same board store one other run same = ap (longer_by board store run) (same run.clock)
+cycle_same : (board : BoardParts) (store : List ℕ) (one other : Environment) (run : BoardRun) → GivesTheSame one other
+    → with_cycle board store one run ≡ with_cycle board store other run
+unfolding cycle_by
+cycle_same board store one other run same = ap (cycle_by board store run) (same run.clock).0
+
+clock_same : (board : BoardParts) (store : List ℕ) (one other : Environment) (run : BoardRun) → GivesTheSame one other
+    → with_clock board store one run ≡ with_clock board store other run
+unfolding with_clock
+clock_same board store one other run same =
+    ap₂ (λ (wait : Bool) (cycle : BoardRun). cond wait (with_wait run) cycle)
+    (ap (waits_in board store run.state) (same run.clock).1) (cycle_same board store one other run same)
+
+clocks_same : (board : BoardParts) (store : List ℕ) (one other : Environment) (start : BoardState) (n : ℕ)
+    → GivesTheSame one other → run_of_clocks board store one start n ≡ run_of_clocks board store other start n
+unfolding run_of_clocks
+clocks_same board store one other start zero same = refl
+clocks_same board store one other start (suc n) same =
+    ap (with_clock board store one) (clocks_same board store one other start n same)
+    ∙ clock_same board store one other (run_of_clocks board store other start n) same
+
+-- the same number of clocks makes so many cycles
+count_same : (board : BoardParts) (store : List ℕ) (one other : Environment) (start : BoardState) (n : ℕ)
+    → GivesTheSame one other → clocks_for board store one start n ≡ clocks_for board store other start n
+count_same board store one other start n same =
+    let least = cycles_come board store one start n in
+    let cycles : (clocks : ℕ) → cycles_in board store one start clocks ≡ cycles_in board store other start clocks =
+    λ clocks. ap (λ (run : BoardRun). run.clock.cycle) (clocks_same board store one other start clocks same) in
+    clocks_are_one board store other start n (clocks_for board store one start n) (record {
+      made = sym (cycles (clocks_for board store one start n)) ∙ least.made;
+      least = λ fewer below. subst (λ made. made < n) (cycles fewer) (least.least fewer below);
+    })
 
 runs_same : (board : BoardParts) (store : List ℕ) (one other : Environment) (start : BoardState) (n : ℕ)
     → GivesTheSame one other → run_of board store one start n ≡ run_of board store other start n
-unfolding run_of
-runs_same board store one other start zero same = refl
-runs_same board store one other start (suc n) same =
-    ap (longer_run board store one) (runs_same board store one other start n same)
-    ∙ longer_same board store one other (run_of board store other start n) same
+runs_same board store one other start n same =
+    clocks_same board store one other start (clocks_for board store one start n) same
+    ∙ ap (run_of_clocks board store other start) (count_same board store one other start n same)
+
+-- the clock that makes a cycle is given the same line
+lines_same : (board : BoardParts) (store : List ℕ) (one other : Environment) (start : BoardState) (n : ℕ)
+    → GivesTheSame one other → line_of_cycle board store one start n ≡ line_of_cycle board store other start n
+lines_same board store one other start n same =
+    let making = clock_making board store one start n in
+    ap (λ (given : CycleIn). given.line) (same (record { cycle = 0; taken = 0; clocks = making })).0
+    ∙ ap (λ clocks. slice_index_or other.line (clocks - 1) false) (count_same board store one other start (n + 1) same)
 
 found_same : (p q : ℕ → Bool) → ((n : ℕ) → p n ≡ q n) → (numbers : List ℕ) → find p numbers ≡ find q numbers
 found_same p q same [] = refl
@@ -125,9 +163,9 @@ zeros_show_nothing job start =
     let other = with_env start short in
     let same = zeros_give_nothing env in
     let step : first_step job other ≡ first_step job start =
-    steps_same job.machine start.pair.machine (slice_index_or short.line 0 false) (slice_index_or env.line 0 false)
-    short.inputs env.inputs 0 (ap (λ (given : CycleIn). given.line) (same at_start))
-    (λ n. ap (λ (given : CycleIn). given.input) (same (record { cycle = 0; taken = n }))) in
+    steps_same job.machine start.pair.machine (line_at job other 0) (line_at job start 0) short.inputs env.inputs 0
+    (lines_same job.board job.store short env start.pair.board 0 same)
+    (λ n. ap (λ (given : CycleIn). given.input) (same (record { cycle = 0; taken = n; clocks = 0 })).0) in
     ap (shown_by job other)
     (segments_same job.board job.store short env start.pair.board (addresses_of job) start.boundary.bound same)
     ∙ shown_same job start other (λ run. None) (segment_of job start)

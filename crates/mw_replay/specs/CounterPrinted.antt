@@ -77,7 +77,7 @@ counter_text job counter =
 
 -- ---- what is read back
 
--- a counter whose environment's lists have no zeros at their ends, which gives a run the same in each cycle
+-- a counter whose environment's lists have no zeros at their ends, which gives a run the same at each clock
 abbrev pub in_short : Counter → Counter
 in_short counter = record {
   boundary = counter.boundary;

@@ -4,7 +4,7 @@ use Rattle.mw_asm.specs.declared.assembled.Label.{Label}
 use Rattle.mw_board.specs.declared.parts.BoardParts.{BoardParts}
 use Rattle.mw_board.specs.Check.{check_of}
 use Rattle.mw_cycle.specs.declared.environment.Clock.{Clock}
-use Rattle.mw_cycle.specs.Environment.{Environment, IsEnvironment, given_at}
+use Rattle.mw_cycle.specs.Environment.{Environment, IsEnvironment, given_at, wait_bit}
 use Rattle.mw_cycle.specs.State.{BoardState, Fits}
 use Rattle.mw_cycle.specs.Trimmed.{shortened, IsTrimmed}
 use Rattle.mw_rel.specs.declared.difference.Difference.{Difference}
@@ -40,9 +40,11 @@ abbrev pub NoneDiffersBefore : Type 0
 NoneDiffersBefore = (job : Job) (start here : Start) (k step : ℕ) (difference : Difference)
     → IsReached job start k here → step ≤ k → ¬ DiffersAt job start step difference
 
--- an environment without the zeros at its lists' ends gives the same in each cycle
+-- an environment without the zeros at its lists' ends gives the same to each clock, and the same wait bit
 abbrev pub ZerosGiveNothing : Type 0
-ZerosGiveNothing = (env : Environment) (place : Clock) → given_at (shortened env) place ≡ given_at env place
+ZerosGiveNothing = (env : Environment) (place : Clock)
+    → (given_at (shortened env) place ≡ given_at env place)
+    × (wait_bit (shortened env) place ≡ wait_bit env place)
 
 -- a start shows the same without these zeros
 abbrev pub ZerosShowNothing : Type 0

@@ -1,10 +1,9 @@
 -- Segment after segment from a start, each with one described step.
-use Rattle.std.specs.Prelude.{◌≡◌, ℕ, ◌+◌, ◌<◌, length, false, slice_index_or, Some, None}
+use Rattle.std.specs.Prelude.{◌≡◌, ℕ, ◌+◌, ◌<◌, length, Some, None}
 use Rattle.mw_cycle.specs.declared.environment.Clock.{Clock}
 use Rattle.mw_cycle.specs.Environment.{Environment, IsEnvironment, rest_at}
-use Rattle.mw_cycle.specs.Run.{BoardRun}
+use Rattle.mw_cycle.specs.Run.{BoardRun, line_of_cycle}
 use Rattle.mw_macro.specs.DescribedStep.{Stepped, step_of}
-use Rattle.mw_macro.specs.State.{MachineState}
 use Rattle.mw_rel.specs.Certified.{boundary_at}
 use Rattle.mw_rel.specs.Differs.{difference_of, segment_of, start_after}
 use Rattle.mw_rel.specs.Free.{numbered}
@@ -34,10 +33,11 @@ pub record IsReplay (job : Job) (replay : Replay) : Type 0 where
   pub start : IsStart job (next_start job replay)
   pub env : IsEnvironment job.board replay.env
 
--- the described step from a state: its request is the line in the environment's first cycle, and its inputs begin at
--- number 0
-abbrev pub step_with : Job → MachineState → Environment → Stepped
-step_with job state env = step_of job.machine state (slice_index_or env.line 0 false) env.inputs 0
+-- the described step from a pair: its request is the line of the clock that makes the board's first cycle, and its
+-- inputs begin at number 0
+abbrev pub step_with : Job → Pair → Environment → Stepped
+step_with job pair env = step_of job.machine pair.machine
+    (line_of_cycle job.board job.store env pair.board 0) env.inputs 0
 
 -- a start, and then that of its next segment
 pub record Follows (job : Job) (start next : Start) : Type 0 where

@@ -7,6 +7,7 @@ use Rattle.mw_cycle.specs.State.{BoardState}
 use Rattle.mw_rel.specs.Differs.{first_step, segment_of}
 use Rattle.mw_rel.specs.Job.{Job}
 use Rattle.mw_rel.specs.Start.{Start}
+use Rattle.mw_sim.specs.Run.{AreFew}
 use Rattle.mw_replay.specs.declared.stepping.Stand.{Stand}
 use Rattle.mw_replay.specs.CounterText.{number_at}
 use Rattle.mw_replay.specs.Replay.{Replay, next_start}
@@ -28,8 +29,10 @@ pub record Comes (job : Job) (replay : Replay) (stand : Stand) (n : ℕ) (end : 
   pub machine : stand.pair.machine ≡ (first_step job (next_start job replay)).state
   pub steps : stand.steps.items ≡ (first_step job (next_start job replay)).events
 
--- the segment of a replay, from this place on, has at most 500 cycles, and as many events and inputs taken
+-- the segment of a replay, from this place on, has at most 500 cycles, and as many events and inputs taken, beside
+-- which its clocks are few
 pub record IsShort (place : Clock) (es : List Event) (end : Clock) : Type 0 where
   pub few : length es ≤ 500
   pub cycle : end.cycle ≤ place.cycle + 500
   pub taken : end.taken ≤ place.taken + 500
+  pub clocks : AreFew place.clocks 500 end.clocks

@@ -24,7 +24,8 @@ pub fn none_differs_before()
     ensures { NoneDiffersBefore }
 {}
 
-/// The law of zeros: an environment without the zeros at its lists' ends gives the same in each cycle.
+/// The law of zeros: an environment without the zeros at its lists' ends gives the same to each clock,
+/// and has the same wait bit for it.
 pub fn zeros_give_nothing()
     ensures { ZerosGiveNothing }
 {}

@@ -8,6 +8,7 @@ mod laws;
 mod one_replay;
 mod printed;
 mod reached;
+mod request;
 mod stepping;
 mod text;
 

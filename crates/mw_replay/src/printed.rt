@@ -191,8 +191,8 @@ fn append_series(
     append_values_lines(alloc, text, series.keyword(), &values)
 }
 
-/// Appends the lines of the lists `inputs`, `line` and `noise` of an environment, in this order, without the zeros at
-/// their ends, sixteen values to a line.
+/// Appends the lines of the lists `inputs`, `line`, `noise` and `wait` of an environment, in this order, without the
+/// zeros at their ends, sixteen values to a line.
 ///
 /// # Errors
 ///
@@ -233,9 +233,9 @@ pub fn print_start(
 
 /// The text of a counter of a job: the line `boundary`, with its control address; then, of what isn't 0, `set` for the
 /// elements that are free there, by number, `mem` for each word of the memory, by address, and the lists `inputs`,
-/// `line` and `noise` without the zeros at their ends, sixteen values to a line. Where none of these has more than
-/// 65,536 values then, it is read back, whatever the labels, as the counter without these zeros; also behind the lines
-/// `no` and `difference ..`, where what stands on the second has tokens and its line at most 4,096 bytes.
+/// `line`, `noise` and `wait` without the zeros at their ends, sixteen values to a line. Where none of these has more
+/// than 65,536 values then, it is read back, whatever the labels, as the counter without these zeros; also behind the
+/// lines `no` and `difference ..`, where what stands on the second has tokens and its line at most 4,096 bytes.
 ///
 /// # Errors
 ///

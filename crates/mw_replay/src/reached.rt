@@ -40,7 +40,7 @@ pub(crate) fn copy_addresses(job: &Job, addresses: &mut [u16])
 
 /// The first difference at the boundary that a run has reached: of its events and those of the described step, and of
 /// both states.
-#[tactic(auto, using(crate::proofs::Shown::first_of_four), unfolding(mw_rel::specs::Differs::difference_at))]
+#[tactic(auto, using(crate::proofs::Shown::first_of_four), unfolding(mw_rel::specs::Differs::first_difference))]
 pub(crate) fn difference_at(
     job: &Job,
     boundary: usize,

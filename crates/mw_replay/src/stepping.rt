@@ -14,7 +14,7 @@ ghost use Rattle.mw_rel.specs.InRelation.{BothFit, pair_of};
 ghost use Rattle.mw_rel.specs.Job.{IsJob};
 ghost use Rattle.mw_rel.specs.Start.{addresses_of};
 ghost use Rattle.mw_rel.specs.Views.{job_of};
-ghost use Rattle.mw_sim.specs.Run.{run_at, segment_after};
+ghost use Rattle.mw_sim.specs.Run.{AreFew, run_at, segment_after};
 ghost use Rattle.mw_replay.specs.Counter.{IsCounter, IsStartOf};
 ghost use Rattle.mw_replay.specs.Views.{replay_of, HasRoom};
 ghost use Rattle.mw_replay.specs.Replay.{IsReplay, Follows, next_start, step_with};
@@ -22,6 +22,7 @@ ghost use Rattle.mw_replay.specs.Segment.{Comes, IsShort};
 
 use crate::counter::Counter;
 use crate::reached::{copy_addresses, difference_at, number_at};
+use crate::request::request_of;
 use mw_base::{Event, NoMemory};
 use mw_cycle::{Clock, Datapath, Env};
 use mw_macro::step;
@@ -90,12 +91,14 @@ fn run_segment<A: Datapath>(
     requires env_in { IsEnvironment (job_of job.now).board env.now }
     requires cycle { clock.cycle + limit < 2 ^ 64 }
     requires taken { clock.taken + limit < 2 ^ 64 }
+    requires clocks { clock.clocks + limit < 2 ^ 64 }
     requires room { limit ≤ vec_capacity events.old }
     ensures reached { IfSome result (λ end. segment_after (job_of job.now).board (job_of job.now).store env.now
         (run_at pair.old.board [] clock) (addresses_of (job_of job.now)) limit
         ≡ Some (run_at pair.new.board events.new.items end)) }
     ensures late { result ≡ None → segment_after (job_of job.now).board (job_of job.now).store env.now
         (run_at pair.old.board [] clock) (addresses_of (job_of job.now)) limit ≡ None }
+    ensures clocks { IfSome result (λ end. AreFew clock.clocks limit end.clocks) }
     ensures fits { boards.Fits (job_of job.now).board pair.new.board }
     ensures machine { pair.new.machine ≡ pair.old.machine }
     ensures capacity { vec_capacity events.old ≤ vec_capacity events.new }
@@ -121,8 +124,8 @@ fn run_segment<A: Datapath>(
     }
 }
 
-/// The described step of the next segment, and lists its events alone: its request is the line of the segment's first
-/// cycle, and its inputs are those that were not taken yet.
+/// The described step of the next segment, and lists its events alone: its request is the line of the clock that makes
+/// the segment's first cycle, and its inputs are those that were not taken yet.
 fn run_step(
     job: &Job,
     pair: &mut Pair,
@@ -137,13 +140,13 @@ fn run_step(
     requires empty { temps.old.items ≡ [] }
     requires room { 4096 ≤ vec_capacity steps.old }
     ensures pair { pair.new ≡ pair_of pair.old.board
-        (step_with (job_of job.now) pair.old.machine (rest_at env.now clock)).state }
-    ensures events { steps.new.items ≡ (step_with (job_of job.now) pair.old.machine (rest_at env.now clock)).events }
+        (step_with (job_of job.now) pair.old (rest_at env.now clock)).state }
+    ensures events { steps.new.items ≡ (step_with (job_of job.now) pair.old (rest_at env.now clock)).events }
     ensures fits { machines.Fits (job_of job.now).machine pair.new.machine }
     ensures capacity { vec_capacity steps.old ≤ vec_capacity steps.new }
     ensures empty { temps.new.items ≡ [] }
 {
-    let request = env.given(clock).line;
+    let request = request_of(&job.board, &job.store, &pair.board, env, clock);
     steps.clear();
     step(
         &job.machine,
@@ -178,6 +181,7 @@ fn run_both<A: Datapath>(part: &A, job: &Job, stand: &mut Stand) -> Option<Reach
     requires stands { IsReplay (job_of job.now) (replay_of stand.old) }
     requires cycles { stand.old.clock.cycle + (numbered (job_of job.now) stand.old.boundary).bound < 2 ^ 64 }
     requires taken { stand.old.clock.taken + (numbered (job_of job.now) stand.old.boundary).bound < 2 ^ 64 }
+    requires clocks { stand.old.clock.clocks + (numbered (job_of job.now) stand.old.boundary).bound < 2 ^ 64 }
     requires inputs { stand.old.clock.taken + most_events (job_of job.now).machine < 2 ^ 64 }
     ensures room { HasRoom stand.new }
     ensures env { stand.new.env ≡ stand.old.env }
@@ -222,6 +226,7 @@ fn advance<A: Datapath>(part: &A, job: &Job, stand: &mut Stand) -> Option<Differ
     requires stands { IsReplay (job_of job.now) (replay_of stand.old) }
     requires cycles { stand.old.clock.cycle + (numbered (job_of job.now) stand.old.boundary).bound < 2 ^ 64 }
     requires taken { stand.old.clock.taken + (numbered (job_of job.now) stand.old.boundary).bound < 2 ^ 64 }
+    requires clocks { stand.old.clock.clocks + (numbered (job_of job.now) stand.old.boundary).bound < 2 ^ 64 }
     requires inputs { stand.old.clock.taken + most_events (job_of job.now).machine < 2 ^ 64 }
     ensures room { HasRoom stand.new }
     ensures shown { result ≡ difference_of (job_of job.now) (next_start (job_of job.now) (replay_of stand.old)) }
@@ -230,6 +235,7 @@ fn advance<A: Datapath>(part: &A, job: &Job, stand: &mut Stand) -> Option<Differ
     ensures stands { result ≡ None → IsReplay (job_of job.now) (replay_of stand.new) }
     ensures cycle { stand.new.clock.cycle ≤ stand.old.clock.cycle + 500 }
     ensures taken { stand.new.clock.taken ≤ stand.old.clock.taken + 500 }
+    ensures clocks { AreFew stand.old.clock.clocks 500 stand.new.clock.clocks }
 {
     let Some(reached) = run_both(part, job, stand) else {
         return Some(Difference::Late);
@@ -264,7 +270,7 @@ impl Replay {
                 boundary: counter.boundary,
                 pair,
                 env: counter.begin.env.copied(alloc)?,
-                clock: Clock { cycle: 0, taken: 0 },
+                clock: Clock::start(),
                 events: Vec::with_capacity(alloc, MOST_CYCLES)?,
                 steps: Vec::with_capacity(alloc, MOST_EVENTS)?,
                 temps: Vec::new(alloc),
@@ -283,6 +289,7 @@ impl Replay {
         requires stands { IsReplay (job_of job.now) self.old }
         requires cycles { self.old.clock.cycle + (numbered (job_of job.now) self.old.boundary).bound < 2 ^ 64 }
         requires taken { self.old.clock.taken + (numbered (job_of job.now) self.old.boundary).bound < 2 ^ 64 }
+        requires clocks { self.old.clock.clocks + (numbered (job_of job.now) self.old.boundary).bound < 2 ^ 64 }
         requires inputs { self.old.clock.taken + most_events (job_of job.now).machine < 2 ^ 64 }
         ensures shown { result ≡ difference_of (job_of job.now) (next_start (job_of job.now) self.old) }
         ensures follows { result ≡ None → Follows (job_of job.now) (next_start (job_of job.now) self.old)
@@ -290,6 +297,7 @@ impl Replay {
         ensures stands { result ≡ None → IsReplay (job_of job.now) self.new }
         ensures cycle { self.new.clock.cycle ≤ self.old.clock.cycle + 500 }
         ensures taken { self.new.clock.taken ≤ self.old.clock.taken + 500 }
+        ensures clocks { AreFew self.old.clock.clocks 500 self.new.clock.clocks }
     {
         advance(part, job, &mut self.stand)
     }

@@ -4,9 +4,9 @@ use Rattle.std.proofs.Common.{subst, add-one, inl, inr, arith}
 use Rattle.std.proofs.lemmas.Bool.{cases_lt}
 use Rattle.mw_cycle.specs.Boundary.{IsBoundary}
 use Rattle.mw_macro.specs.Laws.{inputs_in}
-use Rattle.mw_ready.specs.Environment.{IsReadyEnvironment}
-use Rattle.mw_ready.specs.Run.{ReadyRun}
-use Rattle.mw_ready.proofs.Further.{ready_rests_are_environments}
+use Rattle.mw_cycle.specs.Environment.{IsEnvironment}
+use Rattle.mw_cycle.specs.Run.{BoardRun}
+use Rattle.mw_cycle.proofs.Lists.{rests_are_environments}
 use Rattle.mw_rel.proofs.Boundaries.{boundary_once, first_next, next_on}
 use Rattle.mw_rel.proofs.Unlike.{one_some, never_some}
 use Rattle.mw_revise.specs.declared.keep.Block.{Block}
@@ -60,12 +60,12 @@ as_many revision twins k agree =
 
 environments_left : (revision : Revision) (twins : TwinStart) (k : ℕ) (agree : AgreeAt revision twins k)
     → AreTwins revision twins → (side : Side)
-    → IsReadyEnvironment revision.board (start_on side (twins_at revision twins k agree)).env
+    → IsEnvironment revision.board (start_on side (twins_at revision twins k agree)).env
 environments_left revision twins k agree are Old =
-    ready_rests_are_environments revision.board twins.before.env (run_on Old revision twins agree.old_cycle).clock
+    rests_are_environments revision.board twins.before.env (run_on Old revision twins agree.old_cycle).clock
     (are.environments Old)
 environments_left revision twins k agree are New =
-    ready_rests_are_environments revision.board twins.after.env (run_on New revision twins agree.new_cycle).clock
+    rests_are_environments revision.board twins.after.env (run_on New revision twins agree.new_cycle).clock
     (are.environments New)
 
 are_twins_there : (revision : Revision) (twins : TwinStart) (k : ℕ) (agree : AgreeAt revision twins k)
@@ -115,7 +115,7 @@ both_sides revision twins k old_bounds new_bounds Old = old_bounds
 both_sides revision twins k old_bounds new_bounds New = new_bounds
 
 -- the boundary after boundary k of a run, where its next segment is so long
-comes_next : (side : Side) (revision : Revision) (twins : TwinStart) (k c limit : ℕ) (ended : ReadyRun)
+comes_next : (side : Side) (revision : Revision) (twins : TwinStart) (k c limit : ℕ) (ended : BoardRun)
     → IsBoundaryOn side revision twins k c
     → (ran : Segment revision.board (store_of side revision) (rest_on side revision twins c)
     (addresses_of side revision) limit ended) → IsBoundaryOn side revision twins (k + 1) (c + ran.length)
@@ -124,7 +124,7 @@ comes_next side revision twins k c limit ended comes ran =
     IsBoundary.next k c (c + ran.length) comes
     (next_on (addresses_of side revision) (address_after side revision twins)
     (λ m. (run revision.board (store_of side revision) left m).state.at) c ran.length
-    (λ m. sym (ap (λ (r : ReadyRun). r.state.at)
+    (λ m. sym (ap (λ (r : BoardRun). r.state.at)
     (goes_on revision.board (store_of side revision) (start_on side twins) c m))) ran.next)
 
 -- the bounds up to boundary k + 1: those up to k, and that of the last segment
@@ -166,8 +166,8 @@ agree_next revision twins k is agree same =
     (old_block revision twins k is agree) old_ran.within (agree.bounds Old) in
     let new_bounds = bounded New revision twins k agree.new_cycle new_ran.length agree.reached agree.new_comes new_comes
     (new_block revision twins k is agree) new_ran.within (agree.bounds New) in
-    let old_state = ap (λ (r : ReadyRun). r.state) old_ran.is ∙ sym (ap (λ (r : ReadyRun). r.state) old_on) in
-    let new_state = ap (λ (r : ReadyRun). r.state) new_ran.is ∙ sym (ap (λ (r : ReadyRun). r.state) new_on) in
+    let old_state = ap (λ (r : BoardRun). r.state) old_ran.is ∙ sym (ap (λ (r : BoardRun). r.state) old_on) in
+    let new_state = ap (λ (r : BoardRun). r.state) new_ran.is ∙ sym (ap (λ (r : BoardRun). r.state) new_on) in
     record {
       old_cycle = agree.old_cycle + old_ran.length;
       new_cycle = agree.new_cycle + new_ran.length;
@@ -179,10 +179,10 @@ agree_next revision twins k is agree same =
       together = subst (λ s. StandTogether revision.board same.reached
           (run_on Old revision twins (agree.old_cycle + old_ran.length)).state s) new_state
           (subst (λ s. StandTogether revision.board same.reached s same.new_run.state) old_state same.together);
-      events = ap (λ (r : ReadyRun). r.events) old_on
-          ∙ ap₂ (λ xs ys. xs ++ ys) agree.events (ap (λ (r : ReadyRun). r.events) (sym old_ran.is) ∙ same.events
-          ∙ ap (λ (r : ReadyRun). r.events) new_ran.is)
-          ∙ sym (ap (λ (r : ReadyRun). r.events) new_on);
+      events = ap (λ (r : BoardRun). r.events) old_on
+          ∙ ap₂ (λ xs ys. xs ++ ys) agree.events (ap (λ (r : BoardRun). r.events) (sym old_ran.is) ∙ same.events
+          ∙ ap (λ (r : BoardRun). r.events) new_ran.is)
+          ∙ sym (ap (λ (r : BoardRun). r.events) new_on);
     }
 
 -- where no twin start differs, none shows a difference

@@ -10,13 +10,13 @@ use Rattle.mw_board.specs.Rules.{map_bits_rule, map_entries_rule, map_entry_rule
 use Rattle.mw_board.specs.Rules.{point_rule, source_rule, stack_rule, vector_rule, width_rule, word_rule}
 use Rattle.mw_cycle.specs.Decided.{decided_of}
 use Rattle.mw_cycle.specs.Elements.{element_of}
-use Rattle.mw_ready.specs.Boundary.{ready_first_segment}
+use Rattle.mw_cycle.specs.Boundary.{first_segment}
 use Rattle.mw_revise.specs.Examples.{speaking_board}
 use Rattle.mw_revise.specs.TwinCase.{bits_of_cycles, twin_case}
 use Rattle.mw_revise.specs.TwinDiffers.{difference_at, twin_difference}
 
 unfoldable pub revisions_on_literals : ⊤
-unfolding element_of ready_first_segment speaking_board difference_at twin_difference
+unfolding element_of first_segment speaking_board difference_at twin_difference
 revisions_on_literals = tt
 
 -- And to compute what they decide.

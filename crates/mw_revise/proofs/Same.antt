@@ -5,7 +5,7 @@ use Rattle.std.specs.Option.{option_or}
 use Rattle.std.proofs.lemmas.Bool.{and_from, and_parts, eqb-true, eq-eqb}
 use Rattle.mw_board.specs.declared.parts.BoardParts.{BoardParts}
 use Rattle.mw_cycle.specs.State.{BoardState, Fits}
-use Rattle.mw_ready.specs.Run.{ReadyRun}
+use Rattle.mw_cycle.specs.Run.{BoardRun}
 use Rattle.mw_rel.specs.Differs.{same_event}
 use Rattle.mw_rel.proofs.Unlike.{same_lists, never_unlike, event_is, event_itself, number_itself, nothing_made}
 use Rattle.mw_rel.proofs.Unlike.{none_fails, all_pass}
@@ -51,7 +51,7 @@ line_passes board old_state new_state (Fixed number old_value new_value) is =
     and_from _ _ (eq-eqb _ _ is.0) (eq-eqb _ _ is.1)
 
 -- what is compared where the old run has reached a boundary
-record Agree (board : BoardParts) (reached : Block) (old_run new_run : ReadyRun) : Type 0 where
+record Agree (board : BoardParts) (reached : Block) (old_run new_run : BoardRun) : Type 0 where
   events : old_run.events ≡ new_run.events
   at : new_run.state.at ≡ reached.after
   old_sp : old_run.state.seq.sp ≡ reached.sp
@@ -59,7 +59,7 @@ record Agree (board : BoardParts) (reached : Block) (old_run new_run : ReadyRun)
   lines : All (Holds board old_run.state new_run.state) reached.lines
   memory : old_run.state.memory ≡ new_run.state.memory
 
-agree_at : (board : BoardParts) (reached : Block) (old_run new_run : ReadyRun)
+agree_at : (board : BoardParts) (reached : Block) (old_run new_run : BoardRun)
     → difference_at board reached old_run new_run ≡ None → Agree board reached old_run new_run
 unfolding difference_at
 agree_at board reached old_run new_run none =
@@ -79,7 +79,7 @@ agree_at board reached old_run new_run none =
           (nothing_made _ _ four.1);
     }
 
-nothing_at : (board : BoardParts) (reached : Block) (old_run new_run : ReadyRun) → Agree board reached old_run new_run
+nothing_at : (board : BoardParts) (reached : Block) (old_run new_run : BoardRun) → Agree board reached old_run new_run
     → difference_at board reached old_run new_run ≡ None
 unfolding difference_at
 nothing_at board reached old_run new_run agree =
@@ -100,23 +100,23 @@ nothing_at board reached old_run new_run agree =
 -- ---- what a twin start shows
 
 -- of segments that show nothing, both are there
-shown_runs : (revision : Revision) (old_segment new_segment : Option ReadyRun)
+shown_runs : (revision : Revision) (old_segment new_segment : Option BoardRun)
     → shown_by revision old_segment new_segment ≡ None
-    → (old_run : ReadyRun) × (new_run : ReadyRun) × (old_segment ≡ Some old_run) × (new_segment ≡ Some new_run)
+    → (old_run : BoardRun) × (new_run : BoardRun) × (old_segment ≡ Some old_run) × (new_segment ≡ Some new_run)
     × (shown_at revision (block_at Old revision old_run.state.at) old_run new_run ≡ None)
 shown_runs revision (Some old_run) (Some new_run) none = (old_run, new_run, refl, refl, none)
 shown_runs revision (Some old_run) None none = cc
 shown_runs revision None new_segment none = cc
 
 -- and the old one ends at a boundary
-shown_block : (revision : Revision) (old_run new_run : ReadyRun) (there : Option Block)
+shown_block : (revision : Revision) (old_run new_run : BoardRun) (there : Option Block)
     → shown_at revision there old_run new_run ≡ None
     → (reached : Block) × (there ≡ Some reached) × (difference_at revision.board reached old_run new_run ≡ None)
 shown_block revision old_run new_run (Some reached) none = (reached, refl, none)
 shown_block revision old_run new_run None none = cc
 
 -- the first segment of a program of a twin start
-pub segment_of : (side : Side) (revision : Revision) (twins : TwinStart) (ended : ReadyRun)
+pub segment_of : (side : Side) (revision : Revision) (twins : TwinStart) (ended : BoardRun)
     → segment_on side revision twins ≡ Some ended
     → Segment revision.board (store_of side revision) (start_on side twins) (addresses_of side revision)
     twins.block.bound ended
@@ -125,7 +125,7 @@ segment_of side revision twins ended is =
     twins.block.bound ended is
 
 -- the state where it ends fits
-ended_fits : (side : Side) (revision : Revision) (twins : TwinStart) (ended : ReadyRun) → IsRevision revision
+ended_fits : (side : Side) (revision : Revision) (twins : TwinStart) (ended : BoardRun) → IsRevision revision
     → IsTwinStart revision twins → Fits revision.board (start_on side twins).state
     → segment_on side revision twins ≡ Some ended → Fits revision.board ended.state
 ended_fits side revision twins ended is begins fit ends =

@@ -1,21 +1,25 @@
 -- Twins show and decide what they show and decide without their waits.
 use Rattle.std.proofs.Common.{◌≡◌, ℕ, zero, suc, List, [], ◌++◌, Bool, Option, Some, None, option_map, refl, sym, ap}
-use Rattle.std.proofs.Common.{ap₂, ◌∙◌, slice_index_or, false}
+use Rattle.std.proofs.Common.{ap₂, ◌∙◌, ◌<◌, ◌^◌, slice_index, slice_index_or, false}
 use Rattle.std.specs.Prelude.{if◌then◌else◌}
 use Rattle.std.specs.Option.{is_none, unwrap_or}
 use Rattle.mw_board.specs.declared.parts.BoardParts.{BoardParts}
 use Rattle.mw_cycle.specs.Boundary.{first_boundary}
-use Rattle.mw_cycle.specs.declared.series.Series.TheVariants.{Noise}
+use Rattle.mw_cycle.specs.SteadySeries.{Inputs as SteadyInputs, Line as SteadyLine, Noise as SteadyNoise}
+use Rattle.mw_cycle.specs.declared.series.Series.{Series}
+use Rattle.mw_cycle.specs.declared.series.Series.TheVariants.{Inputs, Line, Noise, Wait}
+use Rattle.mw_cycle.specs.Series.{width_of}
+use Rattle.mw_cycle.specs.SteadyEnvironment.{IsEnvironment as IsSteadyEnvironment}
 use Rattle.mw_cycle.specs.Decided.{decided_of}
-use Rattle.mw_cycle.specs.Environment.{Environment, given_at}
-use Rattle.mw_cycle.specs.Run.{BoardRun, run_of}
-use Rattle.mw_ready.specs.Boundary.{ready_first_segment}
-use Rattle.mw_ready.specs.Environment.{IsReadyEnvironment}
-use Rattle.mw_ready.specs.Run.{ReadyRun, given_to_cycle}
-use Rattle.mw_ready.specs.Thinned.{but_clocks, thinned}
-use Rattle.mw_ready.proofs.Begins.{thinned_below}
-use Rattle.mw_ready.proofs.Steady.{nothing_is_thinned}
-use Rattle.mw_ready.proofs.Thinning.{cycle_given, line_thinned, runs_are_thinned}
+use Rattle.mw_cycle.specs.SteadyEnvironment.{Environment as SteadyEnvironment, given_at as steady_given_at}
+use Rattle.mw_cycle.specs.SteadyRun.{BoardRun as SteadyRun, run_of as steady_run_of}
+use Rattle.mw_cycle.specs.Boundary.{first_segment}
+use Rattle.mw_cycle.specs.Environment.{IsEnvironment, values_of}
+use Rattle.mw_cycle.specs.Run.{BoardRun, given_to_cycle}
+use Rattle.mw_cycle.specs.Thinned.{but_clocks, never_waiting, thinned}
+use Rattle.mw_cycle.proofs.Lists.{bits_below}
+use Rattle.mw_cycle.proofs.NeverWaiting.{nothing_is_thinned}
+use Rattle.mw_cycle.proofs.Thinning.{cycle_given, line_thinned, runs_are_thinned}
 use Rattle.mw_revise.specs.declared.keep.Block.{Block}
 use Rattle.mw_revise.specs.declared.programs.Side.{Side}
 use Rattle.mw_revise.specs.declared.programs.Side.TheVariants.{Old, New}
@@ -27,7 +31,7 @@ use Rattle.mw_revise.specs.TwinDiffers.{difference_at, segment_on, shown_at, sho
 use Rattle.mw_revise.specs.TwinStart.{ProgramStart, TwinStart, start_on, start_without_waits}
 use Rattle.mw_revise.specs.TwinStart.{twins_without_waits}
 use Rattle.mw_revise.proofs.Agreeing.{agree_where_none_differs}
-use Rattle.mw_revise.proofs.ProgramRuns.{run, line}
+use Rattle.mw_revise.proofs.ProgramRuns.{line, run, thinned_is}
 
 -- ---- one program
 
@@ -37,7 +41,8 @@ run_alike : (board : BoardParts) (store : List ℕ) (start : ProgramStart) (n : 
 run_alike board store start n =
     let thin = thinned board store start.env start.state in
     runs_are_thinned board store start.env start.state n
-    ∙ ap (λ (env : Environment). run_of board store env start.state n) (sym (nothing_is_thinned board store thin
+    ∙ ap (λ (env : SteadyEnvironment). steady_run_of board store env start.state n)
+    (sym (nothing_is_thinned board store thin
     start.state))
     ∙ sym (runs_are_thinned board store (start_without_waits board store start).env start.state n)
 
@@ -46,7 +51,7 @@ line_alike : (board : BoardParts) (store : List ℕ) (start : ProgramStart) (n :
 line_alike board store start n =
     let thin = thinned board store start.env start.state in
     line_thinned board store start.env start.state n
-    ∙ ap (λ (env : Environment). slice_index_or env.line n false)
+    ∙ ap (λ (env : SteadyEnvironment). slice_index_or env.line n false)
     (sym (nothing_is_thinned board store thin start.state))
     ∙ sym (line_thinned board store (start_without_waits board store start).env start.state n)
 
@@ -59,9 +64,9 @@ mapped board store start (Some n) = ap Some (run_alike board store start n)
 -- so has its first segment
 segment_alike : (board : BoardParts) (store : List ℕ) (start : ProgramStart) (addresses : List ℕ) (limit : ℕ)
     → (let other = start_without_waits board store start in
-    option_map but_clocks (ready_first_segment board store start.env start.state addresses limit)
-    ≡ option_map but_clocks (ready_first_segment board store other.env other.state addresses limit))
-unfolding ready_first_segment
+    option_map but_clocks (first_segment board store start.env start.state addresses limit)
+    ≡ option_map but_clocks (first_segment board store other.env other.state addresses limit))
+unfolding first_segment
 segment_alike board store start addresses limit =
     let other = start_without_waits board store start in
     let ends = λ (at : ℕ → ℕ). option_map but_clocks (option_map (run board store other)
@@ -72,22 +77,22 @@ segment_alike board store start addresses limit =
 -- ---- both
 
 -- what is shown at a boundary is of states and events alone, whatever the clocks are
-clockless : (revision : Revision) (there : Option Block) (a b c d : ReadyRun)
+clockless : (revision : Revision) (there : Option Block) (a b c d : BoardRun)
     → shown_at revision there (record { state = a.state; events = a.events; clock = c.clock })
     (record { state = b.state; events = b.events; clock = d.clock }) ≡ shown_at revision there a b
 unfolding difference_at
 clockless revision None a b c d = refl
 clockless revision (Some reached) a b c d = refl
 
-shown_there : (revision : Revision) (there : Option Block) (a b c d : ReadyRun) → but_clocks a ≡ but_clocks c
+shown_there : (revision : Revision) (there : Option Block) (a b c d : BoardRun) → but_clocks a ≡ but_clocks c
     → but_clocks b ≡ but_clocks d → shown_at revision there a b ≡ shown_at revision there c d
 shown_there revision there a b c d old_same new_same =
-    ap₂ (λ (old_run new_run : BoardRun). shown_at revision there
+    ap₂ (λ (old_run new_run : SteadyRun). shown_at revision there
     (record { state = old_run.state; events = old_run.events; clock = a.clock })
     (record { state = new_run.state; events = new_run.events; clock = b.clock })) old_same new_same
     ∙ clockless revision there c d a b
 
-shown_alike : (revision : Revision) (a b c d : Option ReadyRun) → option_map but_clocks a ≡ option_map but_clocks c
+shown_alike : (revision : Revision) (a b c d : Option BoardRun) → option_map but_clocks a ≡ option_map but_clocks c
     → option_map but_clocks b ≡ option_map but_clocks d → shown_by revision a b ≡ shown_by revision c d
 shown_alike revision None b None d old_same new_same = refl
 shown_alike revision None b (Some c) d old_same new_same = cc
@@ -98,7 +103,7 @@ shown_alike revision (Some a) (Some b) (Some c) None old_same new_same = cc
 shown_alike revision (Some a) (Some b) (Some c) (Some d) old_same new_same =
     let old_run : but_clocks a ≡ but_clocks c = cc in
     let new_run : but_clocks b ≡ but_clocks d = cc in
-    ap (λ (r : BoardRun). shown_at revision (block_at Old revision r.state.at) a b) old_run
+    ap (λ (r : SteadyRun). shown_at revision (block_at Old revision r.state.at) a b) old_run
     ∙ shown_there revision (block_at Old revision c.state.at) a b c d old_run new_run
 
 pub twin_differences_are_thinned : TwinDifferencesAreThinned
@@ -119,14 +124,22 @@ on_side : (side : Side) (revision : Revision) (twins : TwinStart)
 on_side Old revision twins = refl
 on_side New revision twins = refl
 
+-- an environment without waits is one
+ready_below : (board : BoardParts) (env : SteadyEnvironment) → IsSteadyEnvironment board env
+    → (series : Series) (i : ℕ) → slice_index (values_of (never_waiting env) series) i < 2 ^ width_of board.width series
+ready_below board env is Inputs i = is.values SteadyInputs i
+ready_below board env is Line i = is.values SteadyLine i
+ready_below board env is Noise i = is.values SteadyNoise i
+ready_below board env is Wait i = bits_below [] i
+
 environments_thinned : (revision : Revision) (twins : TwinStart)
-    → ((side : Side) → IsReadyEnvironment revision.board (start_on side twins).env) → (side : Side)
-    → IsReadyEnvironment revision.board (start_on side (twins_without_waits revision twins)).env
+    → ((side : Side) → IsEnvironment revision.board (start_on side twins).env) → (side : Side)
+    → IsEnvironment revision.board (start_on side (twins_without_waits revision twins)).env
 environments_thinned revision twins are side =
     let start = start_on side twins in
     rw (on_side side revision twins) (record {
-      noise = thinned_below revision.board (store_of side revision) start.env start.state (are side) Noise;
-      inputs = (are side).inputs;
+      values = ready_below revision.board (thinned revision.board (store_of side revision) start.env start.state)
+          (thinned_is revision.board (store_of side revision) start (are side));
     })
 
 pub thinned_are_twin_starts : ThinnedAreTwinStarts
@@ -166,7 +179,7 @@ given_alike board store start n =
     let thin = thinned board store start.env start.state in
     let other = start_without_waits board store start in
     cycle_given board store start.env start.state n
-    ∙ ap (λ (env : Environment). given_at env (run_of board store env start.state n).clock)
+    ∙ ap (λ (env : SteadyEnvironment). steady_given_at env (steady_run_of board store env start.state n).clock)
     (sym (nothing_is_thinned board store thin start.state))
     ∙ sym (cycle_given board store other.env other.state n)
 
@@ -177,7 +190,7 @@ cycle_alike : (board : BoardParts) (store : List ℕ) (start : ProgramStart) (n 
     ≡ decided_of board store (run board store other n).state (given_to_cycle board store other.env other.state n))
 cycle_alike board store start n =
     let other = start_without_waits board store start in
-    ap (λ (r : BoardRun). decided_of board store r.state (given_to_cycle board store start.env start.state n))
+    ap (λ (r : SteadyRun). decided_of board store r.state (given_to_cycle board store start.env start.state n))
     (run_alike board store start n)
     ∙ ap (decided_of board store (run board store other n).state) (given_alike board store start n)
 

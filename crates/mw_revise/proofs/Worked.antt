@@ -14,8 +14,12 @@ use Rattle.mw_cycle.specs.Cycle.{state_after, nets_of}
 use Rattle.mw_cycle.specs.State.{BoardState, Fits}
 use Rattle.mw_cycle.specs.declared.state.CycleIn.{CycleIn}
 use Rattle.mw_cycle.proofs.OnLiterals.{cycle_on_literals}
-use Rattle.mw_ready.specs.Boundary.{ready_first_segment}
-use Rattle.mw_ready.specs.Environment.{IsReadyEnvironment}
+use Rattle.mw_cycle.specs.Boundary.{first_segment}
+use Rattle.mw_cycle.specs.Environment.{IsEnvironment, values_of}
+use Rattle.mw_cycle.specs.declared.series.Series.{Series}
+use Rattle.mw_cycle.specs.declared.series.Series.TheVariants.{Inputs, Line, Noise, Wait}
+use Rattle.mw_cycle.specs.Series.{width_of}
+use Rattle.mw_cycle.proofs.Lists.{bits_below}
 use Rattle.mw_ready.proofs.OnLiterals.{waits_on_literals}
 use Rattle.mw_revise.specs.declared.difference.TwinDifference.TheVariants as differences
 use Rattle.mw_revise.specs.declared.keep.Block.{Block}
@@ -89,7 +93,7 @@ new_stays s given is =
 -- the first segment of such a program has one cycle
 ends : (store : List ℕ) (address : ℕ) (start : ProgramStart)
     → Stays store address start.state (first_given small_board store start)
-    → ready_first_segment small_board store start.env start.state (address ∷ []) 1
+    → first_segment small_board store start.env start.state (address ∷ []) 1
     ≡ Some (run small_board store start 1)
 ends store address start stays =
     segment_is small_board store start (address ∷ []) 1 1 (record {
@@ -133,9 +137,9 @@ staying_same twins is are =
     let new_stay = new_stays twins.after.state new_given together.new_at in
     let old_state = one_cycle_state small_board staying.before twins.before in
     let new_state = one_cycle_state small_board staying.after twins.after in
-    let old_within = λ (limit : ℕ). ready_first_segment small_board staying.before twins.before.env
+    let old_within = λ (limit : ℕ). first_segment small_board staying.before twins.before.env
     twins.before.state (0 ∷ []) limit in
-    let new_within = λ (limit : ℕ). ready_first_segment small_board staying.after twins.after.env
+    let new_within = λ (limit : ℕ). first_segment small_board staying.after twins.after.env
     twins.after.state (4 ∷ []) limit in
     record {
       old_run = run small_board staying.before twins.before 1;
@@ -215,11 +219,22 @@ eights_fit at pc at_below pc_below = record {
   memory = below (replicate 16 0) (2 ^ 4) (lit< tt) (All-replicate (λ x. x < 2 ^ 4) 16 0 (lit< tt));
 }
 
--- an environment of nothing is one
-nothing_is : IsReadyEnvironment small_board nothing
-nothing_is = record { noise = λ i. lit< tt; inputs = λ i. pow_pos small_board.width }
+-- an environment of lines alone is one
+lines_below : (lines : List Bool) (series : Series) (i : ℕ)
+    → slice_index (values_of (with_lines lines) series) i < 2 ^ width_of small_board.width series
+lines_below lines Inputs i = pow_pos small_board.width
+lines_below lines Line i = bits_below lines i
+lines_below lines Noise i = lit< tt
+lines_below lines Wait i = lit< tt
 
-nothing_on : (side : Side) → IsReadyEnvironment small_board (start_on side (small_twins (8 ∷ 8 ∷ []))).env
+lines_are : (lines : List Bool) → IsEnvironment small_board (with_lines lines)
+lines_are lines = record { values = lines_below lines }
+
+-- so is one of nothing
+nothing_is : IsEnvironment small_board nothing
+nothing_is = lines_are []
+
+nothing_on : (side : Side) → IsEnvironment small_board (start_on side (small_twins (8 ∷ 8 ∷ []))).env
 nothing_on Old = nothing_is
 nothing_on New = nothing_is
 
@@ -266,11 +281,8 @@ ors_disagree agreement =
 
 -- ---- what twin starts share
 
-lines_are : (lines : List Bool) → IsReadyEnvironment small_board (with_lines lines)
-lines_are lines = record { noise = λ i. lit< tt; inputs = λ i. pow_pos small_board.width }
-
 lines_on : (old_lines new_lines : List Bool) (side : Side)
-    → IsReadyEnvironment small_board (start_on side (eights_with (with_lines old_lines) (with_lines new_lines))).env
+    → IsEnvironment small_board (start_on side (eights_with (with_lines old_lines) (with_lines new_lines))).env
 lines_on old_lines new_lines Old = lines_are old_lines
 lines_on old_lines new_lines New = lines_are new_lines
 

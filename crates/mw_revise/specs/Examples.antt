@@ -4,7 +4,7 @@ use Rattle.mw_board.specs.Examples.{small_board, small_points}
 use Rattle.mw_board.specs.declared.control.Control.TheVariants.{Fixed as FixedPoint}
 use Rattle.mw_board.specs.declared.parts.BoardParts.{BoardParts}
 use Rattle.mw_cycle.specs.State.{BoardState}
-use Rattle.mw_ready.specs.Environment.{ReadyEnvironment}
+use Rattle.mw_cycle.specs.Environment.{Environment}
 use Rattle.mw_ready.specs.Examples.{waiting}
 use Rattle.mw_rel.specs.CaseExamples.{goes_to}
 use Rattle.mw_rel.specs.Examples.{pair_with}
@@ -88,23 +88,23 @@ state_at at pc registers =
     record first { at = at; seq = record first.seq { pc = pc } }
 
 -- an environment that has nothing but 0
-abbrev pub nothing : ReadyEnvironment
+abbrev pub nothing : Environment
 nothing = record { line = []; noise = []; wait = []; inputs = [] }
 
 -- one with these lines alone
-abbrev pub with_lines : List Bool → ReadyEnvironment
+abbrev pub with_lines : List Bool → Environment
 with_lines lines = record nothing { line = lines }
 
 -- one with these inputs alone
-abbrev pub with_inputs : List ℕ → ReadyEnvironment
+abbrev pub with_inputs : List ℕ → Environment
 with_inputs inputs = record nothing { inputs = inputs }
 
 -- one with waits, of whose lines that of clock 2 alone is 1
-abbrev pub waiting_for_line : ReadyEnvironment
+abbrev pub waiting_for_line : Environment
 waiting_for_line = record waiting { line = false ∷ false ∷ true ∷ [] }
 
 -- twins at a boundary, with these registers in both and these environments
-abbrev pub twins_with : Block → (registers : List ℕ) → (old_env new_env : ReadyEnvironment) → TwinStart
+abbrev pub twins_with : Block → (registers : List ℕ) → (old_env new_env : Environment) → TwinStart
 twins_with block registers old_env new_env = record {
   block = block;
   before = record { state = state_at 0 1 registers; env = old_env };
@@ -116,7 +116,7 @@ abbrev pub small_twins : (registers : List ℕ) → TwinStart
 small_twins registers = twins_with (register_block 2) registers nothing nothing
 
 -- with 8 in both registers, and these environments
-abbrev pub eights_with : (old_env new_env : ReadyEnvironment) → TwinStart
+abbrev pub eights_with : (old_env new_env : Environment) → TwinStart
 eights_with old_env new_env = twins_with (register_block 2) (8 ∷ 8 ∷ []) old_env new_env
 
 -- what the small twins show with a new program

@@ -1,6 +1,6 @@
 -- Laws of twin starts, and of when two programs agree.
 use Rattle.std.specs.Prelude.{◌≡◌, ◌↔◌, [], None, Some}
-use Rattle.mw_ready.specs.Run.{ReadyRun}
+use Rattle.mw_cycle.specs.Run.{BoardRun}
 use Rattle.mw_revise.specs.declared.difference.TwinDifference.{TwinDifference}
 use Rattle.mw_revise.specs.declared.keep.Block.{Block}
 use Rattle.mw_revise.specs.declared.programs.Side.{Side}
@@ -15,8 +15,8 @@ use Rattle.mw_revise.specs.TwinStart.{TwinStart, IsTwinStart, twins_without_wait
 -- Both first segments keep the bound; they end at the same boundary of the revision, where both states stand together;
 -- and they have the same events.
 pub record AreSame (revision : Revision) (twins : TwinStart) : Type 0 where
-  pub old_run : ReadyRun
-  pub new_run : ReadyRun
+  pub old_run : BoardRun
+  pub new_run : BoardRun
   pub reached : Block
   pub old_segment : segment_on Old revision twins ≡ Some old_run
   pub new_segment : segment_on New revision twins ≡ Some new_run

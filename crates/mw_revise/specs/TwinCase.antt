@@ -4,7 +4,7 @@ use Rattle.std.specs.Option.{is_none, unwrap_or}
 use Rattle.mw_term.specs.declared.decided.Decided.{Decided}
 use Rattle.mw_cycle.specs.Boundary.{first_boundary}
 use Rattle.mw_cycle.specs.Decided.{decided_of}
-use Rattle.mw_ready.specs.Run.{given_to_cycle}
+use Rattle.mw_cycle.specs.Run.{given_to_cycle}
 use Rattle.mw_revise.specs.declared.programs.Side.{Side}
 use Rattle.mw_revise.specs.declared.programs.Side.TheVariants.{Old, New}
 use Rattle.mw_revise.specs.Revision.{Revision, store_of, addresses_of}

@@ -4,8 +4,8 @@ use Rattle.std.specs.Option.{option_or}
 use Rattle.mw_base.specs.declared.event.Event.{Event}
 use Rattle.mw_board.specs.declared.parts.BoardParts.{BoardParts}
 use Rattle.mw_cycle.specs.State.{BoardState}
-use Rattle.mw_ready.specs.Boundary.{ready_first_segment}
-use Rattle.mw_ready.specs.Run.{ReadyRun}
+use Rattle.mw_cycle.specs.Boundary.{first_segment}
+use Rattle.mw_cycle.specs.Run.{BoardRun}
 use Rattle.mw_rel.specs.Differs.{first_unlike, same_event}
 use Rattle.mw_revise.specs.declared.difference.TwinDifference.{TwinDifference}
 use Rattle.mw_revise.specs.declared.difference.TwinDifference.TheVariants as differences
@@ -44,7 +44,7 @@ memory_difference old_memory new_memory =
 
 -- the first difference where the old program has reached a boundary: an event, the boundary, a stack pointer, a line,
 -- a memory word
-unfoldable pub difference_at : BoardParts → Block → (old_run new_run : ReadyRun) → Option TwinDifference
+unfoldable pub difference_at : BoardParts → Block → (old_run new_run : BoardRun) → Option TwinDifference
 difference_at board reached old_run new_run =
     option_or (event_difference old_run.events new_run.events)
     (option_or (boundary_difference reached new_run.state)
@@ -54,18 +54,18 @@ difference_at board reached old_run new_run =
 
 -- the first segment of a program, where it keeps the bound of the boundary at which both begin; nothing where the
 -- bound's number of cycles passes without a boundary
-abbrev pub segment_on : Side → Revision → TwinStart → Option ReadyRun
+abbrev pub segment_on : Side → Revision → TwinStart → Option BoardRun
 segment_on side revision twins =
-    ready_first_segment revision.board (store_of side revision) (start_on side twins).env (start_on side twins).state
+    first_segment revision.board (store_of side revision) (start_on side twins).env (start_on side twins).state
     (addresses_of side revision) twins.block.bound
 
 -- what both first segments show, where the old one ended at this boundary; a segment ends at one, so there is one
-abbrev pub shown_at : Revision → Option Block → (old_run new_run : ReadyRun) → Option TwinDifference
+abbrev pub shown_at : Revision → Option Block → (old_run new_run : BoardRun) → Option TwinDifference
 shown_at revision None old_run new_run = Some differences.LateOld
 shown_at revision (Some reached) old_run new_run = difference_at revision.board reached old_run new_run
 
 -- what first segments show: one that isn't there is late
-abbrev pub shown_by : Revision → (old_segment new_segment : Option ReadyRun) → Option TwinDifference
+abbrev pub shown_by : Revision → (old_segment new_segment : Option BoardRun) → Option TwinDifference
 shown_by revision None new_segment = Some differences.LateOld
 shown_by revision (Some old_run) None = Some differences.LateNew
 shown_by revision (Some old_run) (Some new_run) =

@@ -3,9 +3,9 @@ use Rattle.std.specs.Prelude.{◌≡◌, ℕ, List, Bool}
 use Rattle.mw_board.specs.declared.parts.BoardParts.{BoardParts}
 use Rattle.mw_cycle.specs.Boundary.{IsBoundary}
 use Rattle.mw_cycle.specs.State.{BoardState}
-use Rattle.mw_ready.specs.Environment.{ReadyEnvironment, IsReadyEnvironment}
-use Rattle.mw_ready.specs.Run.{ReadyRun, run_of_cycles, line_of_cycle}
-use Rattle.mw_ready.specs.Thinned.{never_waiting, thinned}
+use Rattle.mw_cycle.specs.Environment.{Environment, IsEnvironment}
+use Rattle.mw_cycle.specs.Run.{BoardRun, run_of, line_of_cycle}
+use Rattle.mw_cycle.specs.Thinned.{never_waiting, thinned}
 use Rattle.mw_revise.specs.declared.keep.Block.{Block}
 use Rattle.mw_revise.specs.declared.programs.Side.{Side}
 use Rattle.mw_revise.specs.declared.programs.Side.TheVariants.{Old, New}
@@ -15,7 +15,7 @@ use Rattle.mw_revise.specs.Together.{StandTogether}
 -- where the run of a program begins: a state, and an environment
 pub record ProgramStart : Type 0 where
   pub state : BoardState
-  pub env : ReadyEnvironment
+  pub env : Environment
 
 -- a boundary, and where the run of each program begins
 pub record TwinStart : Type 0 where
@@ -29,9 +29,9 @@ start_on Old twins = twins.before
 start_on New twins = twins.after
 
 -- its run of n cycles
-abbrev pub run_on : Side → Revision → TwinStart → ℕ → ReadyRun
+abbrev pub run_on : Side → Revision → TwinStart → ℕ → BoardRun
 run_on side revision twins n =
-    run_of_cycles revision.board (store_of side revision) (start_on side twins).env (start_on side twins).state n
+    run_of revision.board (store_of side revision) (start_on side twins).env (start_on side twins).state n
 
 -- the control address after n cycles of it
 abbrev pub address_after : Side → Revision → TwinStart → ℕ → ℕ
@@ -51,7 +51,7 @@ IsBoundaryOn side revision twins k c =
 pub record AreTwins (revision : Revision) (twins : TwinStart) : Type 0 where
   pub block : IsBlockOf revision twins.block
   pub together : StandTogether revision.board twins.block twins.before.state twins.after.state
-  pub environments : (side : Side) → IsReadyEnvironment revision.board (start_on side twins).env
+  pub environments : (side : Side) → IsEnvironment revision.board (start_on side twins).env
   pub inputs : twins.before.env.inputs ≡ twins.after.env.inputs
 
 -- a twin start: twins whose first segments have the same line in their first cycle

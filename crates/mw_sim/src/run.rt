@@ -4,13 +4,12 @@ ghost use Rattle.std.specs.Prelude.{vec_len};
 ghost use Rattle.std.specs.Option.{option_to_list};
 ghost use Rattle.mw_cycle.specs.Boundary.{is_named};
 ghost use Rattle.mw_cycle.specs.Environment.{IsEnvironment};
-ghost use Rattle.mw_cycle.specs.Run.{longer_run};
 ghost use Rattle.mw_cycle.specs.State.{Fits};
-ghost use Rattle.mw_sim.specs.Run.{cycles_after, run_at, segment_after};
+ghost use Rattle.mw_sim.specs.Run.{AreFew, cycles_after, run_at, segment_after};
 
 use mw_base::Event;
 use mw_board::{Board, Store};
-use mw_cycle::{Clock, Datapath, Env, State, cycle};
+use mw_cycle::{Clock, Datapath, Env, State, clock as one_clock};
 
 /// A run that came to no boundary within its limit.
 #[derive(Clone, Copy, Debug, PartialEq, Eq)]
@@ -32,8 +31,7 @@ fn note(events: &mut Vec<Event>, event: Option<Event>)
     }
 }
 
-/// One cycle more.
-#[tactic(auto, unfolding(mw_cycle::specs::Run::longer_run))]
+/// One cycle more, with the waits before it. These end, since the wait list does.
 fn advance<A: Datapath>(
     part: &A,
     board: &Board,
@@ -47,19 +45,29 @@ fn advance<A: Datapath>(
     requires env_in { IsEnvironment board.now env.now }
     requires cycle { clock.cycle + 1 < 2 ^ 64 }
     requires taken { clock.taken + 1 < 2 ^ 64 }
+    requires clocks { clock.clocks + 1 < 2 ^ 64 }
     requires room { vec_len events.old < vec_capacity events.old }
     ensures exact { run_at state.new events.new.items result
-        ≡ longer_run board.now store.now.words env.now (run_at state.old events.old.items clock) }
+        ≡ cycles_after board.now store.now.words env.now (run_at state.old events.old.items clock) 1 }
     ensures fits { Fits board.now state.new }
     ensures cycle { result.cycle ≡ clock.cycle + 1 }
     ensures taken { result.taken ≤ clock.taken + 1 }
+    ensures clocks { AreFew clock.clocks 1 result.clocks }
     ensures few { vec_len events.new ≤ vec_len events.old + 1 }
     ensures capacity { vec_capacity events.old ≤ vec_capacity events.new }
 {
-    let given = env.given(clock);
-    let nets = cycle(part, board, store, state, given);
-    note(events, nets.event);
-    clock.after(nets.event)
+    let mut reached = clock;
+    'clocks: loop {
+        let given = env.given(reached);
+        let wait = env.waits(reached);
+        match one_clock(part, board, store, state, given, wait) {
+            Some(nets) => {
+                note(events, nets.event);
+                return reached.after(nets.event);
+            }
+            None => reached = reached.after_wait(),
+        }
+    }
 }
 
 /// Whether a board stands at one of these control addresses.
@@ -69,8 +77,9 @@ fn stands_at(state: &State, addresses: &[u16]) -> bool
     addresses.contains(&state.at)
 }
 
-/// Runs a board for `count` cycles from the state and the clock that are given, appends its events, and answers its
-/// clock after them. It takes no memory, and the list keeps its room.
+/// Runs a board for `count` cycles from the state and the clock that are given, with the waits before each, appends its
+/// events, and answers its clock after them. No clock from 2^63 on waits, so that beside its cycles a run has few clocks.
+/// It takes no memory, and the list keeps its room.
 ///
 /// The state fits the board, the environment is one of the board, there is spare room for `count` events, and the
 /// clock stays within 64 bits.
@@ -88,9 +97,11 @@ pub fn run_cycles<A: Datapath>(
     requires env_in { IsEnvironment board.now env.now }
     requires cycle { clock.cycle + count < 2 ^ 64 }
     requires taken { clock.taken + count < 2 ^ 64 }
+    requires clocks { clock.clocks + count < 2 ^ 64 }
     requires room { vec_len events.old + count ≤ vec_capacity events.old }
     ensures exact { run_at state.new events.new.items result
         ≡ cycles_after board.now store.now.words env.now (run_at state.old events.old.items clock) count }
+    ensures clocks { AreFew clock.clocks count result.clocks }
     ensures fits { Fits board.now state.new }
     ensures capacity { vec_capacity events.old ≤ vec_capacity events.new }
 {
@@ -102,8 +113,9 @@ pub fn run_cycles<A: Datapath>(
 }
 
 /// Runs a board from the state and the clock that are given to the next cycle start at one of these control
-/// addresses: for one cycle at least, and for `limit` cycles at most. It appends the events of these cycles, and
-/// answers the clock after them. It takes no memory, and the list keeps its room.
+/// addresses: for one cycle at least, and for `limit` cycles at most, in which waits aren't counted. It appends the
+/// events of these cycles, and answers the clock after them; beside the cycles there are few clocks. It takes no memory,
+/// and the list keeps its room.
 ///
 /// The state fits the board, the environment is one of the board, there is spare room for `limit` events, and the
 /// clock stays within 64 bits. There may be no addresses.
@@ -127,10 +139,12 @@ pub fn run_to_boundary<A: Datapath>(
     requires env_in { IsEnvironment board.now env.now }
     requires cycle { clock.cycle + limit < 2 ^ 64 }
     requires taken { clock.taken + limit < 2 ^ 64 }
+    requires clocks { clock.clocks + limit < 2 ^ 64 }
     requires room { vec_len events.old + limit ≤ vec_capacity events.old }
     ensures reached { IfOk result (λ end. segment_after board.now store.now.words env.now
         (run_at state.old events.old.items clock) boundaries.now limit
         ≡ Some (run_at state.new events.new.items end)) }
+    ensures clocks { IfOk result (λ end. AreFew clock.clocks limit end.clocks) }
     ensures named { IfOk result (λ end. is_named boundaries.now state.new.at ≡ true) }
     ensures late { IfErr result (λ late. segment_after board.now store.now.words env.now
         (run_at state.old events.old.items clock) boundaries.now limit ≡ None) }

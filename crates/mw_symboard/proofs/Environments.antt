@@ -18,12 +18,12 @@ use Rattle.mw_term.specs.Values.{op_value, term_value}
 use Rattle.mw_term.proofs.Tables.{terms_have_ops}
 use Rattle.mw_term.specs.WordList.{term_of, variable}
 use Rattle.mw_cycle.specs.declared.microword.Microword.{Microword}
-use Rattle.mw_cycle.specs.declared.series.Series.{Series}
-use Rattle.mw_cycle.specs.declared.series.Series.TheVariants.{Inputs, Line, Noise}
-use Rattle.mw_cycle.specs.Series.{goes_by_cycle, kind_of, series_of_kind, width_of}
-use Rattle.mw_cycle.specs.Environment.{Environment, values_of, with_lists}
+use Rattle.mw_cycle.specs.SteadySeries.{Series}
+use Rattle.mw_cycle.specs.SteadySeries.{Inputs, Line, Noise}
+use Rattle.mw_cycle.specs.SteadySeries.{goes_by_cycle, kind_of, series_of_kind, width_of}
+use Rattle.mw_cycle.specs.SteadyEnvironment.{Environment, values_of, with_lists}
 use Rattle.mw_cycle.proofs.Named.{kind_named, no_input, no_variable, series_of_kind_back}
-use Rattle.mw_cycle.proofs.Lists.{lists_are_environment, lists_back}
+use Rattle.mw_cycle.proofs.SteadyLists.{lists_are_environment, lists_back}
 use Rattle.mw_symmem.specs.Memory.{Memory, IsOfWidth}
 use Rattle.mw_symmem.specs.Words.{AreOf, HaveOwnKinds, IsVariable}
 use Rattle.mw_symmem.proofs.Growth.{width_stays}

@@ -12,7 +12,7 @@ use Rattle.mw_board.specs.Valid.{IsBoard}
 use Rattle.mw_cycle.specs.declared.elements.Element.TheVariants.{Mar}
 use Rattle.mw_cycle.specs.Microword.{IsMicroword}
 use Rattle.mw_cycle.specs.Cycle.{nets_of}
-use Rattle.mw_cycle.specs.Run.{clock_after}
+use Rattle.mw_cycle.specs.SteadyRun.{clock_after}
 use Rattle.mw_term.specs.declared.kinds.WordKind.{WordKind}
 use Rattle.mw_term.specs.declared.decided.DecidedKind.{DecidedKind}
 use Rattle.mw_term.specs.Assigned.{Given}

@@ -7,11 +7,11 @@ use Rattle.std.proofs.lemmas.Option.{same_Some}
 use Rattle.std.proofs.Math.Seq.{take-append_seam}
 use Rattle.mw_board.specs.declared.parts.BoardParts.{BoardParts}
 use Rattle.mw_term.specs.declared.decided.Decided.{Decided}
-use Rattle.mw_cycle.specs.Decided.{bits_of_cycle, bits_of_cycles}
-use Rattle.mw_cycle.specs.Environment.{Environment, at_start, rest_at}
-use Rattle.mw_cycle.specs.Run.{longer_run, run_of}
+use Rattle.mw_cycle.specs.SteadyDecided.{bits_of_cycle, bits_of_cycles}
+use Rattle.mw_cycle.specs.SteadyEnvironment.{Environment, at_start, rest_at}
+use Rattle.mw_cycle.specs.SteadyRun.{longer_run, run_of}
 use Rattle.mw_cycle.specs.State.{BoardState}
-use Rattle.mw_cycle.proofs.Cycles.{bits_further}
+use Rattle.mw_cycle.proofs.SteadyCycles.{bits_further}
 use Rattle.mw_symmem.proofs.Lists.{behind}
 use Rattle.mw_symboard.specs.Seen.{AreFirst}
 

@@ -8,12 +8,13 @@ use Rattle.mw_base.specs.declared.event.Event.TheVariants as events
 use Rattle.mw_board.specs.declared.parts.BoardParts.{BoardParts}
 use Rattle.mw_term.specs.declared.decided.Decided.{Decided}
 use Rattle.mw_cycle.specs.declared.elements.Element.{Element}
-use Rattle.mw_cycle.specs.declared.environment.Clock.{Clock}
+use Rattle.mw_cycle.specs.SteadyEnvironment.{Clock}
 use Rattle.mw_cycle.specs.Cycle.{nets_of}
-use Rattle.mw_cycle.specs.Decided.{decided, bits_of_cycle}
+use Rattle.mw_cycle.specs.Decided.{decided}
+use Rattle.mw_cycle.specs.SteadyDecided.{bits_of_cycle}
 use Rattle.mw_cycle.specs.Elements.{element_of, value_of}
-use Rattle.mw_cycle.specs.Environment.{Environment, given_at}
-use Rattle.mw_cycle.specs.Run.{BoardRun, clock_after, longer_run}
+use Rattle.mw_cycle.specs.SteadyEnvironment.{Environment, given_at}
+use Rattle.mw_cycle.specs.SteadyRun.{BoardRun, clock_after, longer_run}
 use Rattle.mw_cycle.specs.State.{BoardState}
 use Rattle.mw_cycle.proofs.Values.{is_element}
 use Rattle.mw_term.specs.declared.event.SymEvent.{SymEvent}
@@ -21,8 +22,8 @@ use Rattle.mw_term.specs.declared.event.SymEvent.TheVariants.{Out, Taken}
 use Rattle.mw_term.specs.declared.decided.DecidedKind.{DecidedKind}
 use Rattle.mw_term.specs.declared.kinds.WordKind.{WordKind}
 use Rattle.mw_term.specs.declared.kinds.WordKind.TheVariants.{Line, Noise, Input}
-use Rattle.mw_cycle.specs.declared.series.Series.TheVariants as lists
-use Rattle.mw_cycle.specs.Series.{kind_of}
+use Rattle.mw_cycle.specs.SteadySeries as lists
+use Rattle.mw_cycle.specs.SteadySeries.{kind_of}
 use Rattle.mw_cycle.proofs.Lists.{bit_at}
 use Rattle.mw_term.specs.declared.word.Word.{Word}
 use Rattle.mw_term.specs.Assigned.{Given}

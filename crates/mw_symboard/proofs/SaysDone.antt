@@ -10,10 +10,10 @@ use Rattle.mw_board.specs.declared.parts.BoardParts.{BoardParts}
 use Rattle.mw_board.specs.Depth.{depth_of}
 use Rattle.mw_board.specs.Store.{word_at}
 use Rattle.mw_board.specs.Valid as valid
-use Rattle.mw_cycle.specs.declared.environment.Clock.{Clock}
+use Rattle.mw_cycle.specs.SteadyEnvironment.{Clock}
 use Rattle.mw_cycle.specs.Cycle.{answer_of, event_from, from_source, nets_of}
 use Rattle.mw_cycle.specs.Microword.{IsMicroword, points_of}
-use Rattle.mw_cycle.specs.Run.{clock_after}
+use Rattle.mw_cycle.specs.SteadyRun.{clock_after}
 use Rattle.mw_cycle.specs.State.{BoardState}
 use Rattle.mw_term.specs.Assigned.{Given}
 use Rattle.mw_term.specs.MemoryRead.{held}

@@ -8,7 +8,7 @@ use Rattle.mw_term.specs.Values.{Keeps}
 use Rattle.mw_symmem.specs.declared.side.Side.{Side}
 use Rattle.mw_term.specs.declared.word.Word.{Word}
 use Rattle.mw_term.specs.WordList.{variable}
-use Rattle.mw_cycle.specs.declared.series.Series.TheVariants.{Inputs}
+use Rattle.mw_cycle.specs.SteadySeries.{Inputs}
 use Rattle.mw_symmem.specs.Memory.{Memory, AddsRead, IsMemory, with_read}
 use Rattle.mw_symmem.specs.Words.{AreOf}
 use Rattle.mw_symmem.specs.Workspace.{GoesOn, IsWorkspace}

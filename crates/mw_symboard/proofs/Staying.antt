@@ -9,7 +9,7 @@ use Rattle.mw_seq.specs.declared.instruction.CounterMove.{CounterMove}
 use Rattle.mw_seq.specs.declared.instruction.CounterMove.TheVariants as counters
 use Rattle.mw_seq.specs.Instruction.{instruction_of}
 use Rattle.mw_term.specs.declared.kinds.WordKind.TheVariants.{Input, Line, Noise}
-use Rattle.mw_cycle.specs.Series.{kind_of}
+use Rattle.mw_cycle.specs.SteadySeries.{kind_of}
 use Rattle.mw_term.specs.declared.op.Op.TheVariants.{Not}
 use Rattle.mw_term.specs.Table.{Table, Extends}
 use Rattle.mw_term.specs.declared.event.SymEvent.{SymEvent}

@@ -10,9 +10,9 @@ use Rattle.mw_term.specs.Table.{Table, Extends, op_width}
 use Rattle.mw_term.specs.Values.{IsTermOf, Keeps}
 use Rattle.mw_term.specs.declared.word.Word.{Word}
 use Rattle.mw_term.specs.WordList.{same_kind, variable, is_of, term_of}
-use Rattle.mw_cycle.specs.declared.series.Series.{Series}
-use Rattle.mw_cycle.specs.declared.series.Series.TheVariants.{Inputs}
-use Rattle.mw_cycle.specs.Series.{kind_of, width_of}
+use Rattle.mw_cycle.specs.SteadySeries.{Series}
+use Rattle.mw_cycle.specs.SteadySeries.{Inputs}
+use Rattle.mw_cycle.specs.SteadySeries.{kind_of, width_of}
 use Rattle.mw_cycle.proofs.Named.{no_variable, own_series}
 use Rattle.mw_symmem.specs.Kinds.{kind_is, kind_own}
 use Rattle.mw_symmem.specs.Memory.{Memory, IsOfWidth}

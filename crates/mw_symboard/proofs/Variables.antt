@@ -15,9 +15,9 @@ use Rattle.mw_symmem.specs.Workspace.{GoesOn, HaveKinds, IsWorkspace}
 use Rattle.mw_symmem.proofs.Later.{goes_by_variable, goes_then}
 use Rattle.mw_symmem.proofs.Lists.{plain_behind, term_variable}
 use Rattle.mw_symboard.specs.Growth.{Grew}
-use Rattle.mw_cycle.specs.declared.series.Series.{Series}
-use Rattle.mw_cycle.specs.declared.series.Series.TheVariants as lists
-use Rattle.mw_cycle.specs.Series.{goes_by_cycle, kind_of}
+use Rattle.mw_cycle.specs.SteadySeries.{Series}
+use Rattle.mw_cycle.specs.SteadySeries as lists
+use Rattle.mw_cycle.specs.SteadySeries.{goes_by_cycle, kind_of}
 use Rattle.mw_cycle.proofs.Named.{no_input, no_variable, own_number}
 use Rattle.mw_symboard.specs.Kinds.{AreInputs, IsCycleKind, IsSourceKind}
 use Rattle.mw_symboard.specs.Turns.{AreNoLater}

@@ -3,9 +3,9 @@ use Rattle.std.specs.Prelude.{◌≡◌, ℕ, ◌⊎◌, List, true, Some}
 use Rattle.mw_board.specs.declared.parts.BoardParts.{BoardParts}
 use Rattle.mw_term.specs.declared.kinds.WordKind.{WordKind}
 use Rattle.mw_term.specs.declared.kinds.WordKind.TheVariants.{Base, Input}
-use Rattle.mw_cycle.specs.declared.series.Series.{Series}
-use Rattle.mw_cycle.specs.declared.series.Series.TheVariants.{Inputs}
-use Rattle.mw_cycle.specs.Series.{goes_by_cycle, kind_of, width_of}
+use Rattle.mw_cycle.specs.SteadySeries.{Series}
+use Rattle.mw_cycle.specs.SteadySeries.{Inputs}
+use Rattle.mw_cycle.specs.SteadySeries.{goes_by_cycle, kind_of, width_of}
 use Rattle.mw_term.specs.Table.{Table}
 use Rattle.mw_term.specs.declared.word.Word.{Word}
 use Rattle.mw_symmem.specs.Memory.{IsOfWidth}

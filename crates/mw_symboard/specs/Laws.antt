@@ -5,14 +5,15 @@ use Rattle.std.specs.Prelude.{slice_index}
 use Rattle.mw_board.specs.declared.parts.BoardParts.{BoardParts}
 use Rattle.mw_board.specs.Elements.{element_count}
 use Rattle.mw_term.specs.declared.decided.Decided.{Decided}
-use Rattle.mw_cycle.specs.Decided.{decided, bits_of_cycle, bits_of_cycles}
+use Rattle.mw_cycle.specs.Decided.{decided}
+use Rattle.mw_cycle.specs.SteadyDecided.{bits_of_cycle, bits_of_cycles}
 use Rattle.mw_cycle.specs.Elements.{bits_of, element, element_of}
-use Rattle.mw_cycle.specs.Environment.{Environment, IsEnvironment, values_of}
-use Rattle.mw_cycle.specs.Run.{BoardRun, run_of}
+use Rattle.mw_cycle.specs.SteadyEnvironment.{Environment, IsEnvironment, values_of}
+use Rattle.mw_cycle.specs.SteadyRun.{BoardRun, run_of}
 use Rattle.mw_cycle.specs.State.{BoardState, Fits}
 use Rattle.mw_term.specs.declared.decided.DecidedKind.{DecidedKind}
-use Rattle.mw_cycle.specs.declared.series.Series.{Series}
-use Rattle.mw_cycle.specs.Series.{kind_of}
+use Rattle.mw_cycle.specs.SteadySeries.{Series}
+use Rattle.mw_cycle.specs.SteadySeries.{kind_of}
 use Rattle.mw_term.specs.declared.word.Word.{Word}
 use Rattle.mw_term.specs.Assigned.{Given}
 use Rattle.mw_term.specs.Table.{Table}

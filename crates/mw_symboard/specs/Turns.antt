@@ -8,13 +8,13 @@ use Rattle.mw_board.specs.declared.bit.DFrom.{DFrom}
 use Rattle.mw_board.specs.declared.bit.DFrom.TheVariants as sources
 use Rattle.mw_board.specs.declared.parts.BoardParts.{BoardParts}
 use Rattle.mw_board.specs.Depth.{depth_of}
-use Rattle.mw_cycle.specs.declared.environment.Clock.{Clock}
+use Rattle.mw_cycle.specs.SteadyEnvironment.{Clock}
 use Rattle.mw_cycle.specs.Cycle.{nets_of}
 use Rattle.mw_cycle.specs.Decided.{decided, decided_of}
-use Rattle.mw_cycle.specs.Run.{clock_after}
+use Rattle.mw_cycle.specs.SteadyRun.{clock_after}
 use Rattle.mw_term.specs.declared.decided.DecidedKind.{DecidedKind}
-use Rattle.mw_cycle.specs.declared.series.Series.{Series}
-use Rattle.mw_cycle.specs.Series.{goes_by_cycle, kind_of}
+use Rattle.mw_cycle.specs.SteadySeries.{Series}
+use Rattle.mw_cycle.specs.SteadySeries.{goes_by_cycle, kind_of}
 use Rattle.mw_term.specs.Assigned.{Given}
 use Rattle.mw_term.specs.MemoryRead.{Held, held}
 use Rattle.mw_term.specs.Table.{Table}

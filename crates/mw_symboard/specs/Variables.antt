@@ -1,7 +1,7 @@
 -- The variables of the cycles of a run, and the environments and assignments that go with one another.
 use Rattle.std.specs.Prelude.{◌≡◌, ℕ, ◌+◌, ◌%◌, ◌^◌, ◌<◌, ◌⊎◌, ◌++◌, List, length, true, Some}
 use Rattle.mw_board.specs.declared.parts.BoardParts.{BoardParts}
-use Rattle.mw_cycle.specs.Environment.{Environment, IsEnvironment}
+use Rattle.mw_cycle.specs.SteadyEnvironment.{Environment, IsEnvironment}
 use Rattle.mw_term.specs.declared.kinds.WordKind.{WordKind}
 use Rattle.mw_term.specs.declared.kinds.WordKind.TheVariants.{Base, Input}
 use Rattle.mw_term.specs.declared.word.Word.{Word}
@@ -13,8 +13,8 @@ use Rattle.mw_symmem.specs.Memory.{Memory, IsOfWidth}
 use Rattle.mw_symmem.specs.Words.{AreOf, HaveOwnKinds, IsVariable}
 use Rattle.mw_symmem.specs.Workspace.{HaveKinds, IsLater}
 use Rattle.mw_symboard.specs.declared.reading.Reading.{Reading}
-use Rattle.mw_cycle.specs.declared.series.Series.{Series}
-use Rattle.mw_cycle.specs.Series.{goes_by_cycle, kind_of, width_of}
+use Rattle.mw_cycle.specs.SteadySeries.{Series}
+use Rattle.mw_cycle.specs.SteadySeries.{goes_by_cycle, kind_of, width_of}
 use Rattle.mw_symboard.specs.Kinds.{AreInputs, HaveWidth}
 use Rattle.mw_symboard.specs.Laws.{IsEnvironmentOf}
 use Rattle.mw_symboard.specs.Turns.{Symbolic, AreNoLater, IsSymbolic}
@@ -83,7 +83,7 @@ VariablesHaveValues =
     → AreOf t words → IsVariable words place term kind → IsOfWidth t width term
     → term_value t given term ≡ given (place + 1) % 2 ^ width
 
--- For every assignment there is an environment that has the values of all variables of its lists.
+-- For every assignment there is an environment without waits that has the values of all variables of its lists.
 abbrev pub EnvironmentsAreThere : Type 0
 EnvironmentsAreThere =
     (board : BoardParts) (t : Table) (words : List Word) (cycles : ℕ) (given : Given) → IsTable t → HaveOwnKinds words
@@ -102,8 +102,8 @@ pub record IsOutsideNumber (words : List Word) (n : ℕ) : Type 0 where
   pub is : IsVariable words place term kind
   pub outside : IsOutsideKind kind
 
--- For every assignment and every environment there is a second assignment of which it is an environment, and which
--- differs from the first in the variables of environments alone.
+-- For every assignment and every environment without waits there is a second assignment of which it is an environment,
+-- and which differs from the first in the variables of environments alone.
 abbrev pub EnvironmentsAreReached : Type 0
 EnvironmentsAreReached =
     (board : BoardParts) (t : Table) (words : List Word) (cycles : ℕ) (given : Given) (env : Environment) → IsTable t

@@ -64,8 +64,8 @@ pub fn variables_are_there()
     ensures widths { VariablesHaveWidths }
 {}
 
-/// The law of environments: for every assignment there is an environment that has the values of the variables of its
-/// lists; for every environment there is an assignment under which it has them, which differs from a given one in these
+/// The law of environments: for every assignment there is an environment without waits that has the values of the
+/// variables of its lists; for every environment without waits there is an assignment under which it has them, which differs from a given one in these
 /// variables alone; and it has them under each assignment that differs in others alone.
 pub fn environments_are_there()
     ensures there { EnvironmentsAreThere }

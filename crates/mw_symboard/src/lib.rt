@@ -1,5 +1,5 @@
 //! One cycle of a board on terms: under every assignment it is the cycle of a state, and one cycle after another is a
-//! run.
+//! run that never waits.
 #![tactic(auto)]
 
 mod address;

@@ -7,10 +7,10 @@ use Rattle.mw_base.specs.Words.{num}
 use Rattle.mw_board.specs.declared.parts.BoardParts.{BoardParts}
 use Rattle.mw_board.specs.Valid as valid
 use Rattle.mw_cycle.specs.declared.microword.Microword.{Microword}
-use Rattle.mw_cycle.specs.declared.series.Series.{Series}
-use Rattle.mw_cycle.specs.declared.series.Series.TheVariants.{Inputs}
+use Rattle.mw_cycle.specs.SteadySeries.{Series}
+use Rattle.mw_cycle.specs.SteadySeries.{Inputs}
 use Rattle.mw_cycle.specs.Decided.{decides_counter, decides_pass}
-use Rattle.mw_cycle.specs.Series.{kind_of as series_kind, series_of_kind}
+use Rattle.mw_cycle.specs.SteadySeries.{kind_of as series_kind, series_of_kind}
 use Rattle.mw_cycle.proofs.Named.{no_variable}
 use Rattle.mw_term.specs.declared.decided.DecidedKind.{DecidedKind}
 use Rattle.mw_term.specs.declared.kinds.WordKind.{WordKind}

@@ -1,10 +1,9 @@
 // Worked cases, computed on the definitions.
 ghost use Rattle.std.specs.Prelude.{◌≡◌, [], ◌∷◌, ◌++◌, false, true};
 ghost use Rattle.mw_cycle.specs.Decided.{decided};
-ghost use Rattle.mw_rel.specs.Case.{cycles_of, is_late};
-ghost use Rattle.mw_rel.specs.CaseExamples.{adding_job, asking_job, case_with, counting_job, spinning_job, testing_job};
+ghost use Rattle.mw_rel.specs.CaseExamples.{adding_job, asking_job, counting_job, spinning_job, testing_job};
 ghost use Rattle.mw_rel.specs.CaseExamples.{to_one, to_zero};
-ghost use Rattle.mw_rel.specs.Examples.{start_with};
+ghost use Rattle.mw_tests.specs.Starts.{case_with, cycles_with, is_late};
 ghost use Rattle.mw_term.specs.declared.decided.DecidedKind.TheVariants.{Branch, CounterZero, Pass};
 
 /// What starts decide: the next addresses of their cycles, pass where it is tested and the counter where it is asked
@@ -21,11 +20,11 @@ fn worked_cases()
 
 /// How many cycles the segments of starts have, and whether they are late.
 fn worked_ends()
-    ensures added { cycles_of adding_job (start_with adding_job (7 ∷ 1 ∷ [])) ≡ 2 }
-    ensures in_time { is_late adding_job (start_with adding_job (7 ∷ 1 ∷ [])) ≡ false }
-    ensures spun { cycles_of spinning_job (start_with spinning_job (7 ∷ 1 ∷ [])) ≡ 2 }
-    ensures late { is_late spinning_job (start_with spinning_job (7 ∷ 1 ∷ [])) ≡ true }
-    ensures asked { cycles_of asking_job (start_with asking_job (7 ∷ 1 ∷ [])) ≡ 1 }
+    ensures added { cycles_with adding_job (7 ∷ 1 ∷ []) ≡ 2 }
+    ensures in_time { is_late adding_job (7 ∷ 1 ∷ []) ≡ false }
+    ensures spun { cycles_with spinning_job (7 ∷ 1 ∷ []) ≡ 2 }
+    ensures late { is_late spinning_job (7 ∷ 1 ∷ []) ≡ true }
+    ensures asked { cycles_with asking_job (7 ∷ 1 ∷ []) ≡ 1 }
 {}
 
 #[test]

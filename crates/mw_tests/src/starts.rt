@@ -1,6 +1,7 @@
 // Six worked starts of jobs, computed on the definitions.
 ghost use Rattle.std.specs.Prelude.{◌≡◌, [], ◌∷◌, Some, None};
-ghost use Rattle.mw_rel.specs.Examples.{same_job, element_job, late_job, subtract_job, push_job, shown};
+ghost use Rattle.mw_rel.specs.Examples.{same_job, element_job, late_job, subtract_job, push_job};
+ghost use Rattle.mw_tests.specs.Starts.{shown};
 ghost use Rattle.mw_rel.specs.declared.difference.Difference.TheVariants.{Late, Element, StackPointer};
 
 /// What each of them shows: nothing where both sides do the same; else the element or the stack pointer that differs,

@@ -31,6 +31,8 @@ use Rattle.mw_rel.specs.Start.{Start}
 use Rattle.mw_rel.proofs.Elements.{widths_count}
 use Rattle.mw_rel.proofs.Relations.{is_there}
 use Rattle.mw_rel.proofs.Shown.{is_shown}
+use Rattle.mw_ready.specs.Thinned.{thinned_start}
+use Rattle.mw_ready.proofs.Differences.{differences_are_thinned}
 use Rattle.mw_replay.specs.CounterPrinted.{MayFollow}
 use Rattle.mw_replay.proofs.Lines.{is_plain}
 use Rattle.mw_replay.proofs.Names.{all_each, board_count, board_name, board_names, board_spelled}
@@ -314,7 +316,7 @@ at_place P xs n x all at = subst P (get_or_from_slice_get xs n x x at) (all n x 
 pub element_is_there : (job : Job) (start : Start) (e : ℕ) → IsJob job → difference_of job start ≡ Some (Element e)
     → e < length job.relation.shape.widths
 element_is_there job start e is shows =
-    let shown = is_shown job start (Element e) shows in
+    let shown = is_shown job (thinned_start job start) (Element e) (sym (differences_are_thinned job start) ∙ shows) in
     let fails = shown.3.2 in
     let place = is_there job shown.0.state.at shown.1 shown.2.there in
     let formed = at_place (IsFormedBoundary job.relation.shape) job.relation.boundaries place.0 shown.1

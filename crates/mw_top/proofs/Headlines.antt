@@ -13,7 +13,7 @@ use Rattle.mw_plan.proofs.Once.{ends_once}
 use Rattle.mw_plan.proofs.Steps.{next_is_among}
 use Rattle.mw_rel.specs.Certified.{Certified}
 use Rattle.mw_rel.specs.Job.{Job, IsJob}
-use Rattle.mw_rel.proofs.Law.{certified_where_none_differs}
+use Rattle.mw_ready.proofs.Steps.{certified_where_none_differs}
 use Rattle.mw_top.specs.declared.commands.Task.TheVariants as tasks
 use Rattle.mw_top.specs.declared.commands.Work.{Work}
 use Rattle.mw_top.specs.declared.commands.Work.TheVariants as works

@@ -10,7 +10,7 @@ use Rattle.mw_rel.specs.Certified.{Certified}
 use Rattle.mw_rel.specs.Differs.{Differs, DiffersAt}
 use Rattle.mw_rel.specs.Job.{Job, IsJob}
 use Rattle.mw_rel.specs.Start.{Start}
-use Rattle.mw_rel.proofs.Law.{certified_where_none_differs}
+use Rattle.mw_ready.proofs.Steps.{certified_where_none_differs}
 use Rattle.mw_replay.proofs.Steps.{none_differs_before}
 use Rattle.mw_top.specs.declared.commands.Task.TheVariants as tasks
 use Rattle.mw_top.specs.declared.commands.Work.{Work}

@@ -21,6 +21,20 @@ use std::alloc::Global;
 const USAGE: &[u8] =
     b"usage: mw_bench COMMAND FILES [--nodes N] [--paths P] [--steps K] [--cycles C] [--parts]";
 
+/// Appends a line that ends with a count in decimal digits, which may have 64 bits.
+pub(crate) fn append_count_line(
+    alloc: Global,
+    report: &mut Vec<u8>,
+    front: &[u8],
+    count: u64,
+) -> Result<(), NoMemory>
+    ensures { OnOk result (report.new.items ≡ report.old.items ++ line (front.now ++ decimal count)) }
+{
+    report.extend_from_slice(front)?;
+    append_decimal(alloc, report, count)?;
+    append_line(report, b"")
+}
+
 /// Appends a line that ends with a number in decimal digits.
 pub(crate) fn append_decimal_line(
     alloc: Global,
@@ -30,9 +44,7 @@ pub(crate) fn append_decimal_line(
 ) -> Result<(), NoMemory>
     ensures { OnOk result (report.new.items ≡ report.old.items ++ line (front.now ++ decimal number)) }
 {
-    report.extend_from_slice(front)?;
-    append_decimal(alloc, report, u64::from(number))?;
-    append_line(report, b"")
+    append_count_line(alloc, report, front, u64::from(number))
 }
 
 /// Appends the answer to faulty words.

@@ -101,7 +101,7 @@ fn push_simulated<A: Datapath>(
 {
     let Start { state, env } = start;
     let Program { board, made } = programmed;
-    let begun = Clock { cycle: 0, taken: 0 };
+    let begun = Clock::start();
     let mut events = Vec::with_capacity(alloc, asked.limit as usize)?;
     let ended = run_to_boundary(
         part,

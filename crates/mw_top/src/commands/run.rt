@@ -9,13 +9,13 @@ ghost use Rattle.mw_plan.specs.Steps.{Ends};
 ghost use Rattle.mw_sim.specs.Run.{run_at};
 ghost use Rattle.mw_top.specs.Commands.Run.{run_plan, IsRun};
 ghost use Rattle.mw_sim.specs.Texts.{event_line};
-ghost use Rattle.mw_top.specs.RunText.{run_from, run_text};
+ghost use Rattle.mw_top.specs.RunText.{clocks_line, run_from, run_text};
 
 use super::Work;
 use super::prepared::{Prepared, read_prepared};
 use crate::fault::Fault;
 use crate::outcome::Outcome;
-use crate::report::append_decimal_line;
+use crate::report::{append_count_line, append_decimal_line};
 use crate::status::Status;
 use mw_asm::Program;
 use mw_base::{Event, NoMemory};
@@ -26,7 +26,16 @@ use mw_plan::{Files, Stop};
 use mw_sim::{Parts, Start, append_event, append_state, run_cycles};
 use std::alloc::Global;
 
-/// Runs a board from its state, over an environment, by its arithmetic part. The events of its cycles, in order.
+/// What a run leaves beside the state.
+struct Ran {
+    /// The events, in order.
+    events: Vec<Event>,
+    /// How many clocks there were.
+    clocks: u64,
+}
+
+/// Runs a board from its state, over an environment, by its arithmetic part. It appends the events of its cycles, in
+/// order, and answers how many clocks these had.
 fn run_part<A: Datapath>(
     part: &A,
     board: &Board,
@@ -35,20 +44,21 @@ fn run_part<A: Datapath>(
     env: &Env,
     cycles: u32,
     events: &mut Vec<Event>,
-)
+) -> u64
     requires fits { Fits board.now state.old }
     requires env_in { IsEnvironment board.now env.now }
     requires empty { events.old.items ≡ [] }
     requires room { vec_len events.old + cycles ≤ vec_capacity events.old }
     ensures state { state.new ≡ (run_of board.now store.now.words env.now state.old cycles).state }
     ensures events { events.new.items ≡ (run_of board.now store.now.words env.now state.old cycles).events }
+    ensures clocks { result ≡ (run_of board.now store.now.words env.now state.old cycles).clock.clocks }
     ensures fits { Fits board.now state.new }
 {
-    let start = Clock { cycle: 0, taken: 0 };
-    run_cycles(part, board, store, state, env, start, cycles, events);
+    let start = Clock::start();
+    run_cycles(part, board, store, state, env, start, cycles, events).clocks
 }
 
-/// Runs a board from its state, over an environment, as its parts or as a whole. The events of its cycles, in order.
+/// Runs a board from its state, over an environment, as its parts or as a whole.
 fn run(
     alloc: Global,
     parts: bool,
@@ -57,21 +67,23 @@ fn run(
     state: &mut State,
     env: &Env,
     cycles: u32,
-) -> Result<Vec<Event>, NoMemory>
+) -> Result<Ran, NoMemory>
     requires fits { Fits board.now state.old }
     requires env_in { IsEnvironment board.now env.now }
     ensures state { OnOk result (state.new ≡ (run_of board.now store.now.words env.now state.old cycles).state) }
-    ensures events { IfOk result (λ events.
-        events.items ≡ (run_of board.now store.now.words env.now state.old cycles).events) }
+    ensures events { IfOk result (λ ran.
+        ran.events.items ≡ (run_of board.now store.now.words env.now state.old cycles).events) }
+    ensures clocks { IfOk result (λ ran.
+        ran.clocks ≡ (run_of board.now store.now.words env.now state.old cycles).clock.clocks) }
     ensures fits { OnOk result (Fits board.now state.new) }
 {
     let mut events = Vec::with_capacity(alloc, cycles as usize)?;
-    if parts {
-        run_part(&Parts, board, store, state, env, cycles, &mut events);
+    let clocks = if parts {
+        run_part(&Parts, board, store, state, env, cycles, &mut events)
     } else {
-        run_part(&Whole, board, store, state, env, cycles, &mut events);
-    }
-    Ok(events)
+        run_part(&Whole, board, store, state, env, cycles, &mut events)
+    };
+    Ok(Ran { events, clocks })
 }
 
 /// Appends events, in order.
@@ -82,6 +94,21 @@ fn append_events(alloc: Global, report: &mut Vec<u8>, events: &[Event]) -> Resul
         append_event(alloc, report, *event)?;
     }
     Ok(())
+}
+
+/// Appends how many clocks a run had, where some of them were waits.
+fn append_clocks(
+    alloc: Global,
+    report: &mut Vec<u8>,
+    cycles: u32,
+    clocks: u64,
+) -> Result<(), NoMemory>
+    ensures { OnOk result (report.new.items ≡ report.old.items ++ clocks_line cycles clocks) }
+{
+    if clocks == u64::from(cycles) {
+        return Ok(());
+    }
+    append_count_line(alloc, report, b"clocks ", clocks)
 }
 
 /// The text of a run.
@@ -98,7 +125,7 @@ fn run_from(
     ensures { IfOk result (λ text. text.items ≡ run_from (record { program = program.now; start = start }) cycles) }
 {
     let Start { mut state, env } = start;
-    let events = run(
+    let Ran { events, clocks } = run(
         alloc,
         parts,
         &program.board,
@@ -109,6 +136,7 @@ fn run_from(
     )?;
     let mut text = Vec::new(alloc);
     append_decimal_line(alloc, &mut text, b"cycles ", cycles)?;
+    append_clocks(alloc, &mut text, cycles, clocks)?;
     append_events(alloc, &mut text, &events)?;
     append_state(alloc, &mut text, &program.board, &state)?;
     Ok(text)

@@ -10,7 +10,7 @@ returns-clause-assigned c =
     record { values = c.in_ok-values.values.items; memory = c.in_ok-memory.memory.items; env = c.in_ok-env.env } in
     assigned_by (job_of c.args.job.now) c.args.boundary c.args.space.now (given_by c.args.given.now) begin
     c.requires.stands.1.space c.in_ok-values.ensures c.in_ok-memory.ensures.words c.in_ok-env.ensures.entries
-    c.in_ok-env.ensures.trimmed
+    c.in_ok-env.ensures.wait c.in_ok-env.ensures.trimmed
 
 pub returns-clause-start : goal.returns-clause-start
 returns-clause-start c = λ elements ground.
@@ -18,4 +18,4 @@ returns-clause-start c = λ elements ground.
     record { values = c.in_ok-values.values.items; memory = c.in_ok-memory.memory.items; env = c.in_ok-env.env } in
     start_begun (job_of c.args.job.now) c.args.boundary c.args.space.now elements (given_by c.args.given.now) begin
     c.args.job.now.is_job ground c.in_ok-values.ensures c.in_ok-memory.ensures.image c.in_ok-memory.ensures.fit
-    c.in_ok-env.ensures.entries
+    c.in_ok-env.ensures.entries c.in_ok-env.ensures.wait

@@ -1,6 +1,6 @@
 use Rattle.std.proofs.Common.{ap, sym, take, ◌∙◌, arith}
 use Rattle.std.specs.Prelude.{if◌then◌else◌}
-use Rattle.mw_cycle.specs.Series.{kind_of}
+use Rattle.mw_cycle.specs.SteadySeries.{kind_of}
 use Rattle.mw_term.specs.Assigned.{given_by}
 use Rattle.mw_term.specs.Values.{term_value}
 use Rattle.mw_term.specs.WordList.{is_of, term_of}
@@ -50,5 +50,6 @@ loop-word-preserved c =
           (c.loop-word.invariant.entries kind outside)
           ∙ sym (value_next t given (take i words) w kind (λ k is. new_at words i w k slice.ensures.own at is))
           ∙ ap (λ ws. value_or_zero t given (term_of ws kind)) (sym (taken_next words i w at));
+      wait = ensures.wait ∙ c.loop-word.invariant.wait;
       trimmed = ensures.trimmed c.loop-word.invariant.trimmed;
     }

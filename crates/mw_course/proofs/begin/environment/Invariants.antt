@@ -1,4 +1,4 @@
-use Rattle.std.proofs.Common.{◌≡◌, take}
+use Rattle.std.proofs.Common.{◌≡◌, [], take}
 use Rattle.std.specs.Prelude.{true}
 use Rattle.mw_cycle.specs.Trimmed.{IsTrimmed}
 use Rattle.mw_term.specs.declared.kinds.WordKind.{WordKind}
@@ -13,5 +13,6 @@ invariant-loop-word l = record {
   entries : (kind : WordKind) → is_outside kind ≡ true
       → entry l.env kind
       ≡ value_or_zero l.space.terms (given_by l.given) (term_of (take l.word-index l.space.words) kind);
+  wait : l.env.wait ≡ [];
   trimmed : IsTrimmed l.env;
 }

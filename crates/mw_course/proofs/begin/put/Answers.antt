@@ -1,5 +1,5 @@
 use Rattle.std.proofs.Common.{arith}
-use Rattle.mw_course.proofs.Placing.{one_filled, put_taken, put_trimmed}
+use Rattle.mw_course.proofs.Placing.{one_filled, put_named, put_trimmed, put_waits}
 use Rattle.mw_course.proofs.begin.put.Goals as goal
 
 pub loop-env-preserved : goal.loop-env-preserved
@@ -9,9 +9,15 @@ loop-env-preserved c = record {
 }
 
 pub returns-clause-took : goal.returns-clause-took
-returns-clause-took c =
-    put_taken c.args.series c.args.number c.args.value c.args.env.now c.loop-env.env c.set.new.self c.requires.width
-    (omega (arith, c.length.ensures, c.loop-env-test.false)) c.loop-env.invariant.filled c.set.ensures
+returns-clause-took c = λ kind named.
+    put_named kind c.args.series c.args.number c.args.value c.args.env.now c.loop-env.env c.set.new.self named
+    c.requires.width (omega (arith, c.length.ensures, c.loop-env-test.false)) c.loop-env.invariant.filled
+    c.set.ensures
+
+pub returns-clause-wait : goal.returns-clause-wait
+returns-clause-wait c =
+    put_waits c.args.series c.args.number c.args.value c.args.env.now c.loop-env.env c.set.new.self
+    c.loop-env.invariant.filled c.set.ensures
 
 pub returns-clause-trimmed : goal.returns-clause-trimmed
 returns-clause-trimmed c =

@@ -1,4 +1,4 @@
-use Rattle.mw_cycle.proofs.Suffix.{boundary_further}
+use Rattle.mw_cycle.proofs.SteadySuffix.{boundary_further}
 use Rattle.mw_cycle.proofs.laws.boundaries_go_on.Goals as goal
 
 pub returns : goal.returns

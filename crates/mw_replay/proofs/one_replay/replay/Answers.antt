@@ -18,6 +18,12 @@ step-requires-clause-taken c =
     c.in_ok-replay.ensures.stands.there in
     omega (arith, ap (λ (clock : Clock). clock.taken) c.in_ok-replay.ensures.clock, solved.most)
 
+pub step-requires-clause-clocks : goal.step-requires-clause-clocks
+step-requires-clause-clocks c =
+    let solved = solved_at (job_of c.args.job.now) c.in_ok-replay.replay.boundary c.args.job.now.is_job
+    c.in_ok-replay.ensures.stands.there in
+    omega (arith, ap (λ (clock : Clock). clock.clocks) c.in_ok-replay.ensures.clock, solved.most)
+
 pub step-requires-clause-inputs : goal.step-requires-clause-inputs
 step-requires-clause-inputs c =
     let few = accepted_few (description_of c.args.job.now.machine) c.args.job.now.machine.is_machine.accepted in

@@ -4,6 +4,7 @@ use Rattle.mw_rel.specs.InRelation.{Pair}
 use Rattle.mw_rel.specs.Relation.{Boundary}
 use Rattle.mw_rel.specs.Views.{job_of}
 use Rattle.mw_rel.proofs.Relations.{solved_at}
+use Rattle.mw_sim.proofs.Runs.{few_of_fewer}
 use Rattle.mw_replay.specs.CounterText.{number_at}
 use Rattle.mw_replay.specs.Replay.{next_start}
 use Rattle.mw_replay.specs.Views.{replay_of}
@@ -59,5 +60,7 @@ returns-clause-short g c =
     let job = job_of c.args.job.now in
     let replay = replay_of c.args.stand.now in
     let solved = solved_at job replay.boundary c.args.job.now.is_job c.requires.stands.there in
+    let bound = ap (λ (b : Boundary). b.bound) c.boundary.ensures in
     short job (next_start job replay) replay.clock c.run_segment-ended.new.pair.board
     c.run_segment-ended.new.events.items c.in-Some.clock (returns-clause-reached g c).ended solved.most
+    (few_of_fewer _ _ _ _ c.in-Some.ensures.clocks (omega (arith, bound, solved.most)))

@@ -1,5 +1,4 @@
 use Rattle.std.proofs.Common.{ap, ap₂, ◌∙◌, arith}
-use Rattle.mw_cycle.specs.declared.state.CycleIn.{CycleIn}
 use Rattle.mw_cycle.specs.Environment.{Environment}
 use Rattle.mw_macro.specs.Described.{description_of}
 use Rattle.mw_macro.specs.DescribedStep.{Stepped}
@@ -16,19 +15,15 @@ step-requires-clause-room c =
 
 pub returns-clause-pair : goal.returns-clause-pair
 returns-clause-pair c =
-    let step = step_is (job_of c.args.job.now) c.pair.inside.machine c.args.pair.now.machine c.args.env.now c.args.clock
-    c.given-request.result.line c.deref.result.now
-    (ap (λ (p : Pair). p.machine) c.pair.view_is)
-    (ap (λ (given : CycleIn). given.line) c.given-request.ensures)
+    let step = step_is (job_of c.args.job.now) c.pair.inside.board c.pair.inside.machine c.args.pair.now c.args.env.now
+    c.args.clock c.request_of-request.result c.deref.result.now c.pair.view_is c.request_of-request.ensures
     (c.deref.ensures.value ∙ ap (λ (env : Environment). env.inputs) c.env.view_is) in
     ap₂ pair_of (ap (λ (p : Pair). p.board) c.pair.view_is)
     (c.step.ensures.state ∙ ap (λ (s : Stepped). s.state) step)
 
 pub returns-clause-events : goal.returns-clause-events
 returns-clause-events c =
-    let step = step_is (job_of c.args.job.now) c.pair.inside.machine c.args.pair.now.machine c.args.env.now c.args.clock
-    c.given-request.result.line c.deref.result.now
-    (ap (λ (p : Pair). p.machine) c.pair.view_is)
-    (ap (λ (given : CycleIn). given.line) c.given-request.ensures)
+    let step = step_is (job_of c.args.job.now) c.pair.inside.board c.pair.inside.machine c.args.pair.now c.args.env.now
+    c.args.clock c.request_of-request.result c.deref.result.now c.pair.view_is c.request_of-request.ensures
     (c.deref.ensures.value ∙ ap (λ (env : Environment). env.inputs) c.env.view_is) in
     c.step.ensures.events ∙ rw c.clear.ensures.items (ap (λ (s : Stepped). s.events) step)

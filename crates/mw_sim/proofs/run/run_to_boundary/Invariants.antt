@@ -1,7 +1,7 @@
 use Rattle.std.proofs.Common.{◌≡◌, ◌+◌, ◌≤◌}
 use Rattle.std.specs.Prelude.{vec_capacity, vec_len}
 use Rattle.mw_cycle.specs.State.{Fits}
-use Rattle.mw_sim.specs.Run.{cycles_after, run_at}
+use Rattle.mw_sim.specs.Run.{AreFew, cycles_after, run_at}
 use Rattle.mw_sim.proofs.Runs.{IsLeft}
 use Rattle.mw_sim.proofs.run.run_to_boundary.Given as goal
 
@@ -15,6 +15,7 @@ invariant-cycles g l =
       fits : Fits l.board l.state;
       cycle : l.reached.cycle ≡ l.fn.clock.cycle + l.counter;
       taken : l.reached.taken ≤ l.fn.clock.taken + l.counter;
+      clocks : AreFew l.fn.clock.clocks l.counter l.reached.clocks;
       few : vec_len l.events ≤ vec_len l.fn.events + l.counter;
       capacity : vec_capacity l.fn.events ≤ vec_capacity l.events;
     }

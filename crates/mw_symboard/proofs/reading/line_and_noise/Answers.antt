@@ -1,5 +1,5 @@
 use Rattle.std.proofs.Common.{◌+◌, length, refl, ap, sym, ◌∙◌, arith}
-use Rattle.mw_cycle.specs.declared.series.Series.TheVariants.{Line}
+use Rattle.mw_cycle.specs.SteadySeries.{Line}
 use Rattle.mw_symmem.proofs.Growth.{width_stays}
 use Rattle.mw_symboard.proofs.VariableWidths.{wide_variable}
 use Rattle.mw_symboard.proofs.Variables.{absent_noise, goes_by_both, line_there, noise_there, none_after, inputs_after}

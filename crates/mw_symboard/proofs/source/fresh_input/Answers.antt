@@ -1,6 +1,6 @@
 use Rattle.std.proofs.Common.{◌≡◌, ◌∙◌, ◌+◌, length, ap, sym}
 use Rattle.mw_term.specs.declared.kinds.WordKind.TheVariants.{Input}
-use Rattle.mw_cycle.specs.declared.series.Series.TheVariants.{Inputs}
+use Rattle.mw_cycle.specs.SteadySeries.{Inputs}
 use Rattle.mw_symboard.proofs.Sources.{goes_by_input}
 use Rattle.mw_symboard.proofs.VariableWidths.{variable_found, wide_variable, widths_with}
 use Rattle.mw_term.specs.WordList.{list_of, variable_or, with_variable}

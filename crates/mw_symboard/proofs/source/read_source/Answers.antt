@@ -2,7 +2,7 @@ use Rattle.mw_symmem.specs.declared.side.Side.TheVariants.{Board}
 use Rattle.mw_symmem.proofs.Later.{writes_by_read}
 use Rattle.mw_symboard.proofs.Sources.{goes_by_base, goes_as_source}
 use Rattle.mw_symboard.proofs.VariableWidths.{widths_by_read}
-use Rattle.mw_cycle.specs.declared.series.Series.TheVariants.{Inputs}
+use Rattle.mw_cycle.specs.SteadySeries.{Inputs}
 use Rattle.mw_symboard.proofs.source.read_source.Goals as goal
 
 pub read-requires-clause-address : goal.read-requires-clause-address

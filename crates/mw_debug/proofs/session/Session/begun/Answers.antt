@@ -4,5 +4,5 @@ use Rattle.mw_debug.proofs.session.Session.begun.Goals as goal
 
 pub returns-clause-kept : goal.returns-clause-kept
 unfolding moments_of
-returns-clause-kept c = rw (c.new.ensures.items, c.new-2.ensures.items, c.new-3.ensures.items)
+returns-clause-kept c = rw (c.start.ensures, c.new.ensures.items, c.new-2.ensures.items, c.new-3.ensures.items)
     (begun_is c.args.board.now c.args.state c.requires)

@@ -1,57 +1,62 @@
-use Rattle.std.proofs.Common.{◌<◌, ◌^◌, ◌∷◌, [], refl, arith, rules}
-use Rattle.std.proofs.lemmas.List.{length-append}
-use Rattle.mw_cycle.specs.Run.{longer_run}
-use Rattle.mw_debug.specs.Session.{with_cycle}
+use Rattle.std.proofs.Common.{◌++◌, ◌∷◌, ap, refl, arith}
+use Rattle.std.specs.List.{flat_map}
+use Rattle.mw_cycle.specs.Run.{BoardRun}
+use Rattle.mw_sim.specs.Run.{run_at}
+use Rattle.mw_debug.specs.Session.{Session, numbered_event, reached, with_cycle}
 use Rattle.mw_debug.specs.Views.{session_seen, undo_of}
-use Rattle.mw_debug.proofs.Moments.{cycle_undone, cycles_on, few_cycles, history_with, session_on, taken_on}
-use Rattle.mw_cycle.specs.declared.series.Series.TheVariants.{Inputs}
+use Rattle.mw_debug.proofs.Cycles.{cycle_from, run_made}
+use Rattle.mw_debug.proofs.Moments.{cycle_undone, has_fewer, history_with, session_on}
 use Rattle.mw_debug.proofs.session.Session.make_cycle.Goals as goal
 
-pub cycle-nets-requires-clause-input : goal.cycle-nets-requires-clause-input
-cycle-nets-requires-clause-input c = rw c.given-given.ensures (c.requires.env_in.values Inputs _)
+pub run_cycles-self-requires-clause-cycle : goal.run_cycles-self-requires-clause-cycle
+run_cycles-self-requires-clause-cycle c =
+    (has_fewer c.args.board.now (session_seen c.args.self.now).now c.args.self.now.journal.items _ _
+    c.args.self.now.state.memory c.entries.result c.requires.kept.moments c.in_ok-push.ensures.items
+    c.entries.ensures.exact c.entries.ensures.few).cycle
 
-pub after-self-requires-clause-cycle : goal.after-self-requires-clause-cycle
-after-self-requires-clause-cycle c =
-    let few : c.entries.result < 2 ^ 64 = search rules in
-    (few_cycles c.args.board.now (session_seen c.args.self.now).now c.args.self.now.journal.items
-    c.args.self.now.state.memory c.entries.result c.requires.kept.moments
-    (rw (c.entries.ensures, c.in_ok-push.ensures.items)
-    (length-append c.args.self.now.journal.items (c.undo-undo.result ∷ []))) few).0
+pub run_cycles-self-requires-clause-taken : goal.run_cycles-self-requires-clause-taken
+run_cycles-self-requires-clause-taken c =
+    (has_fewer c.args.board.now (session_seen c.args.self.now).now c.args.self.now.journal.items _ _
+    c.args.self.now.state.memory c.entries.result c.requires.kept.moments c.in_ok-push.ensures.items
+    c.entries.ensures.exact c.entries.ensures.few).taken
 
-pub after-self-requires-clause-taken : goal.after-self-requires-clause-taken
-after-self-requires-clause-taken c =
-    let few : c.entries.result < 2 ^ 64 = search rules in
-    (few_cycles c.args.board.now (session_seen c.args.self.now).now c.args.self.now.journal.items
-    c.args.self.now.state.memory c.entries.result c.requires.kept.moments
-    (rw (c.entries.ensures, c.in_ok-push.ensures.items)
-    (length-append c.args.self.now.journal.items (c.undo-undo.result ∷ []))) few).1
+pub run_cycles-self-requires-clause-clocks : goal.run_cycles-self-requires-clause-clocks
+run_cycles-self-requires-clause-clocks c =
+    (has_fewer c.args.board.now (session_seen c.args.self.now).now c.args.self.now.journal.items _ _
+    c.args.self.now.state.memory c.entries.result c.requires.kept.moments c.in_ok-push.ensures.items
+    c.entries.ensures.exact c.entries.ensures.few).clocks
 
 pub returns-clause-exact : goal.returns-clause-exact
-unfolding with_cycle longer_run
+unfolding with_cycle
 returns-clause-exact c =
-    let s = c.args.self.now.state in
-    let clock = c.args.self.now.clock in
-    let history = history_with c.args.self.now.journal.items (undo_of s clock) _ _
-    (cycle_undone c.args.board.now c.args.store.now.words s clock c.given-given.result) in
+    let s = session_seen c.args.self.now in
+    let run = run_at c.run_cycles-self.new.state c.run_cycles-self.new.events.items c.run_cycles-self.result in
+    let made = run_made c.args.board.now c.args.store.now.words c.args.env.now s.now run _
+    c.in_ok-events.ensures.items c.run_cycles-self.ensures.exact in
+    let history = history_with c.args.self.now.journal.items (undo_of s.now.state s.now.clock) _ _
+    (cycle_undone c.args.board.now c.args.store.now.words c.args.env.now s.now run made) in
     rw (
-      c.cycle-nets.ensures.exact,
-      c.after-self.ensures,
       c.in_ok-append_numbered.ensures,
+      c.deref.ensures.value,
       c.in_ok-push.ensures.items,
       c.undo-undo.ensures,
-      c.cycle-nets.ensures.nets,
       history,
-      c.given-given.ensures,
-    ) refl
+    ) (ap (λ (run : BoardRun). let next : Session = record {
+      now = reached run;
+      history = s.now ∷ s.history;
+      watched = s.watched;
+      text = s.text ++ flat_map (numbered_event c.args.line) run.events;
+    } in next) made)
 
 pub returns-clause-kept : goal.returns-clause-kept
 returns-clause-kept c =
-    let s = c.args.self.now.state in
-    let clock = c.args.self.now.clock in
-    let history = history_with c.args.self.now.journal.items (undo_of s clock) _ _
-    (cycle_undone c.args.board.now c.args.store.now.words s clock c.given-given.result) in
-    session_on c.args.board.now (session_seen c.args.self.now) _ c.requires.kept
-    (rw (c.cycle-nets.ensures.exact, c.in_ok-push.ensures.items, c.undo-undo.ensures) history)
-    refl c.cycle-nets.ensures.fits
-    (rw c.after-self.ensures (omega (arith, cycles_on c.cycle-nets.result.event clock)))
-    (rw c.after-self.ensures (taken_on c.cycle-nets.result.event clock))
+    let s = session_seen c.args.self.now in
+    let run = run_at c.run_cycles-self.new.state c.run_cycles-self.new.events.items c.run_cycles-self.result in
+    let made = run_made c.args.board.now c.args.store.now.words c.args.env.now s.now run _
+    c.in_ok-events.ensures.items c.run_cycles-self.ensures.exact in
+    let one = cycle_from c.args.board.now c.args.store.now.words c.args.env.now s.now run made in
+    let history = history_with c.args.self.now.journal.items (undo_of s.now.state s.now.clock) _ _
+    (cycle_undone c.args.board.now c.args.store.now.words c.args.env.now s.now run made) in
+    session_on c.args.board.now s _ c.requires.kept
+    (rw (c.in_ok-push.ensures.items, c.undo-undo.ensures) history)
+    refl c.run_cycles-self.ensures.fits (omega (arith, one.cycle)) one.taken c.run_cycles-self.ensures.clocks

@@ -1,4 +1,4 @@
-use Rattle.std.proofs.Common.{refl, arith}
+use Rattle.std.proofs.Common.{inl, refl, arith}
 use Rattle.mw_debug.specs.Views.{session_seen, undo_of}
 use Rattle.mw_debug.proofs.Moments.{history_with, session_on, set_undone}
 use Rattle.mw_debug.proofs.session.Session.set.Goals as goal
@@ -19,4 +19,4 @@ returns-clause-kept c =
     (set_undone c.args.board.now s clock c.args.number c.args.value) in
     session_on c.args.board.now (session_seen c.args.self.now) _ c.requires.kept
     (rw (c.set_value.ensures.exact, c.in_ok-push.ensures.items, c.undo-undo.ensures) history)
-    refl c.set_value.ensures.fits (omega arith) (omega arith)
+    refl c.set_value.ensures.fits (omega arith) (omega arith) (inl (omega arith))

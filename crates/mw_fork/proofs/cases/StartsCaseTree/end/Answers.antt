@@ -2,7 +2,7 @@ use Rattle.std.proofs.Common.{◌≡◌, rules, subst}
 use Rattle.std.specs.Option.{is_none}
 use Rattle.mw_path.specs.Paths.{path_in}
 use Rattle.mw_rel.specs.Views.{job_of}
-use Rattle.mw_course.specs.CasePaths.{EndsEach}
+use Rattle.mw_course.specs.EndsEach.{EndsEach}
 use Rattle.mw_course.proofs.Tracing.{ends_met}
 use Rattle.mw_fork.proofs.cases.StartsCaseTree.end.Goals as goal
 

@@ -21,7 +21,7 @@ use Rattle.mw_term.specs.Table.{Table}
 use Rattle.mw_cycle.specs.ReadingWords.{masked_words, source_words}
 use Rattle.mw_symboard.specs.Listed.{standing_of}
 use Rattle.mw_symboard.proofs.Listing.{reading_are}
-use Rattle.mw_cycle.specs.declared.series.Series.TheVariants.{Inputs}
+use Rattle.mw_cycle.specs.SteadySeries.{Inputs}
 use Rattle.mw_symboard.proofs.reading.Reading.new.Goals as goal
 
 pub from_source-requires-clause-workspace : goal.from_source-requires-clause-workspace

@@ -1,5 +1,0 @@
-use Rattle.mw_ready.proofs.Clocks.{clocks_are_bounded}
-use Rattle.mw_ready.proofs.runs.clocks_are_bounded.Goals as goal
-
-pub returns : goal.returns
-returns c = clocks_are_bounded

@@ -1,5 +1,0 @@
-use Rattle.mw_ready.proofs.Further.{clocks_go_on}
-use Rattle.mw_ready.proofs.runs.clocks_go_on.Goals as goal
-
-pub returns : goal.returns
-returns c = clocks_go_on

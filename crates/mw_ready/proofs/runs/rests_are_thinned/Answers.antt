@@ -1,5 +1,0 @@
-use Rattle.mw_ready.proofs.Rests.{rests_are_thinned}
-use Rattle.mw_ready.proofs.runs.rests_are_thinned.Goals as goal
-
-pub returns : goal.returns
-returns c = rests_are_thinned
