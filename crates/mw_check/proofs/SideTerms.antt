@@ -19,7 +19,7 @@ use Rattle.mw_term.specs.Table.{Table, table_of, op_width, term_width, Extends, 
 use Rattle.mw_term.specs.Values.{op_value, term_value, IsTermOf, Keeps}
 use Rattle.mw_term.specs.WordList.{WordList, Ended, AllEnded, ended, list_of, with_word}
 use Rattle.mw_term.proofs.Tables.{widths_count}
-use Rattle.mw_symmem.specs.declared.side.Side.TheVariants.{Board}
+use Rattle.mw_term.specs.declared.side.Side.TheVariants.{Board}
 use Rattle.mw_symmem.specs.Listed.{Lists, ListsOver}
 use Rattle.mw_symmem.specs.Memory.{Memory, memory_of, writes_of, held_by, IsImage, FitImage}
 use Rattle.mw_symmem.specs.Workspace.{IsLater, IsWorkspace}

@@ -27,7 +27,7 @@ use Rattle.mw_symmem.proofs.Later.{width_later}
 use Rattle.mw_symmem.proofs.Lists.{absent, among, kind_of, pushed}
 use Rattle.mw_symmem.proofs.Stays.{stays_with_words}
 use Rattle.mw_symmach.specs.Expressions.{IsBase, IsMade, IsReady}
-use Rattle.mw_symmem.specs.declared.side.Side.{Side}
+use Rattle.mw_term.specs.declared.side.Side.{Side}
 use Rattle.mw_symmach.specs.Steps.{Stands, parts_of}
 use Rattle.mw_symmach.proofs.Acting.{stands_shape, stands_terms}
 use Rattle.mw_expr.specs.declared.shape.Shape.{Shape}

@@ -8,7 +8,7 @@ use Rattle.std.proofs.lemmas.Option.{same_Some, slice_get-map, slice_get_read}
 use Rattle.mw_term.specs.declared.word.Word.{Word}
 use Rattle.mw_term.specs.Table.{Table}
 use Rattle.mw_macro.specs.Counts.{reads}
-use Rattle.mw_symmem.specs.declared.side.Side.TheVariants.{Machine}
+use Rattle.mw_term.specs.declared.side.Side.TheVariants.{Machine}
 use Rattle.mw_symmem.specs.Memory.{Memory, IsMemory}
 use Rattle.mw_symmem.specs.Workspace.{IsWorkspace}
 use Rattle.mw_symmach.specs.Expressions.{AreTerms, Runs}

@@ -14,7 +14,7 @@ use Rattle.mw_term.specs.declared.kinds.WordKind.TheVariants.{Element}
 use Rattle.mw_term.specs.declared.word.Word.{Word}
 use Rattle.mw_term.specs.Table.{Table}
 use Rattle.mw_term.specs.Values.{term_value}
-use Rattle.mw_symmem.specs.declared.side.Side.TheVariants.{Board, Machine}
+use Rattle.mw_term.specs.declared.side.Side.TheVariants.{Board, Machine}
 use Rattle.mw_symmem.specs.Memory.{Memory, FitImage, IsImage, after, held_by, valued}
 use Rattle.mw_symmem.specs.Words.{HaveOwnKinds, IsVariable}
 use Rattle.mw_symmach.specs.Expressions.{values_at}

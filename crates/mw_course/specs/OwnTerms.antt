@@ -6,7 +6,7 @@ use Rattle.mw_term.specs.declared.kinds.WordKind.TheVariants.{Element}
 use Rattle.mw_term.specs.declared.word.Word.{Word}
 use Rattle.mw_term.specs.Table.{Table}
 use Rattle.mw_term.specs.WordList.{AllEnded, Ended, WordList, with_constant, with_variable}
-use Rattle.mw_symmem.specs.declared.side.Side.TheVariants.{Machine}
+use Rattle.mw_term.specs.declared.side.Side.TheVariants.{Machine}
 use Rattle.mw_symmem.specs.Memory.{Memory}
 use Rattle.mw_symmem.specs.Words.{IsVariable}
 use Rattle.mw_symmach.specs.Expressions.{IsMade, Means, Runs}

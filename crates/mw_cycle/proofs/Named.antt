@@ -1,9 +1,11 @@
 -- The variables that stand for the values of an environment.
 use Rattle.std.proofs.Common.{◌≡◌, ◌≢◌, ◌⊎◌, inl, inr, ℕ, ◌<◌, ◌^◌, true, false, refl, sym, ap, subst, ◌∙◌}
-use Rattle.std.specs.Prelude.{Some, None}
+use Rattle.std.specs.Prelude.{Option, Some, None}
 use Rattle.std.proofs.lemmas.Option.{same_Some}
 use Rattle.mw_term.specs.declared.kinds.WordKind.{WordKind}
 use Rattle.mw_term.specs.declared.kinds.WordKind.TheVariants as kinds
+use Rattle.mw_term.specs.declared.side.Side.{Side}
+use Rattle.mw_term.specs.declared.side.Side.TheVariants.{Board, Machine}
 use Rattle.mw_cycle.specs.declared.series.Series.{Series as AnySeries}
 use Rattle.mw_cycle.specs.declared.series.Series.TheVariants as all
 use Rattle.mw_cycle.specs.Series.{series_of_kind as any_series_of_kind, width_of as any_width}
@@ -11,21 +13,26 @@ use Rattle.mw_cycle.specs.SteadySeries.{Series, Inputs, Line, Noise, among_all, 
 use Rattle.mw_cycle.specs.SteadySeries.{width_of as steady_width}
 
 -- the variable of a list's value stands for this value
-pub series_of_kind_back : (series : Series) (n : ℕ) → series_of_kind (kind_of series n) ≡ Some (series, n)
-series_of_kind_back Inputs n = refl
-series_of_kind_back Line n = refl
-series_of_kind_back Noise n = refl
+pub series_of_kind_back : (side : Side) (series : Series) (n : ℕ)
+    → series_of_kind side (kind_of side series n) ≡ Some (series, n)
+series_of_kind_back side Inputs n = refl
+series_of_kind_back Board Line n = refl
+series_of_kind_back Board Noise n = refl
+series_of_kind_back Machine Line n = refl
+series_of_kind_back Machine Noise n = refl
 
-abbrev kind_at : Series × ℕ → WordKind
-kind_at value = kind_of value.0 value.1
+abbrev kind_at : Side → Series × ℕ → WordKind
+kind_at side value = kind_of side value.0 value.1
 
 -- what stands for a list's value is its variable
-pub kind_named : (kind : WordKind) (series : Series) (n : ℕ) → series_of_kind kind ≡ Some (series, n)
-    → kind ≡ kind_of series n
-kind_named (kinds.Input m) series n is = ap kind_at (same_Some (Inputs, m) (series, n) is)
-kind_named (kinds.Line m) series n is = ap kind_at (same_Some (Line, m) (series, n) is)
-kind_named (kinds.Noise m) series n is = ap kind_at (same_Some (Noise, m) (series, n) is)
-kind_named kind series n is = absurd cc
+pub kind_named : (side : Side) (kind : WordKind) (series : Series) (n : ℕ)
+    → series_of_kind side kind ≡ Some (series, n) → kind ≡ kind_of side series n
+kind_named side (kinds.Input m) series n is = ap (kind_at side) (same_Some (Inputs, m) (series, n) is)
+kind_named Board (kinds.Line m) series n is = ap (kind_at Board) (same_Some (Line, m) (series, n) is)
+kind_named Board (kinds.Noise m) series n is = ap (kind_at Board) (same_Some (Noise, m) (series, n) is)
+kind_named Machine (kinds.BesideLine m) series n is = ap (kind_at Machine) (same_Some (Line, m) (series, n) is)
+kind_named Machine (kinds.BesideNoise m) series n is = ap (kind_at Machine) (same_Some (Noise, m) (series, n) is)
+kind_named side kind series n is = absurd cc
 
 -- a list is this one, or another
 pub same_or_other : (one other : Series) → (one ≡ other) ⊎ (one ≢ other)
@@ -35,56 +42,68 @@ same_or_other Noise Noise = inl refl
 same_or_other one other = inr (λ is. absurd cc)
 
 -- no list has the variables of another
-one_value : (one other : Series) (m n : ℕ) → kind_of one m ≡ kind_of other n
+one_value : (side : Side) (one other : Series) (m n : ℕ) → kind_of side one m ≡ kind_of side other n
     → ◌≡◌ {A = Series × ℕ} (one, m) (other, n)
-one_value one other m n is =
+one_value side one other m n is =
     same_Some (one, m) (other, n)
-    (sym (series_of_kind_back one m) ∙ ap series_of_kind is ∙ series_of_kind_back other n)
+    (sym (series_of_kind_back side one m) ∙ ap (series_of_kind side) is ∙ series_of_kind_back side other n)
 
-pub own_series : (one other : Series) (m n : ℕ) → kind_of one m ≡ kind_of other n → one ≡ other
-own_series one other m n is = ap (λ (value : Series × ℕ). value.0) (one_value one other m n is)
+pub own_series : (side : Side) (one other : Series) (m n : ℕ) → kind_of side one m ≡ kind_of side other n → one ≡ other
+own_series side one other m n is = ap (λ (value : Series × ℕ). value.0) (one_value side one other m n is)
 
-pub own_number : (one other : Series) (m n : ℕ) → kind_of one m ≡ kind_of other n → m ≡ n
-own_number one other m n is = ap (λ (value : Series × ℕ). value.1) (one_value one other m n is)
+pub own_number : (side : Side) (one other : Series) (m n : ℕ) → kind_of side one m ≡ kind_of side other n → m ≡ n
+own_number side one other m n is = ap (λ (value : Series × ℕ). value.1) (one_value side one other m n is)
 
 -- what stands for no value of an environment isn't a list's variable
-pub no_variable : (kind : WordKind) (series : Series) (n : ℕ) → series_of_kind kind ≡ None → kind ≢ kind_of series n
-no_variable kind series n none is =
-    let named : series_of_kind kind ≡ Some (series, n) = ap series_of_kind is ∙ series_of_kind_back series n in
-    absurd cc
+pub no_variable : (side : Side) (kind : WordKind) (series : Series) (n : ℕ) → series_of_kind side kind ≡ None
+    → kind ≢ kind_of side series n
+no_variable side kind series n none is =
+    let named : series_of_kind side kind ≡ Some (series, n) =
+    ap (series_of_kind side) is ∙ series_of_kind_back side series n in absurd cc
 
 -- a list that goes by cycle has no input's variable
-pub no_input : (series : Series) (n m : ℕ) → goes_by_cycle series ≡ true → kind_of series n ≢ kinds.Input m
-no_input series n m by is =
+pub no_input : (side : Side) (series : Series) (n m : ℕ) → goes_by_cycle series ≡ true
+    → kind_of side series n ≢ kinds.Input m
+no_input side series n m by is =
     let no : false ≡ true =
-    subst (λ (s : Series). goes_by_cycle s ≡ true) (own_series series Inputs n m is) by in absurd cc
+    subst (λ (s : Series). goes_by_cycle s ≡ true) (own_series side series Inputs n m is) by in absurd cc
 
 -- what no kind of an environment's variables is, isn't a list's variable
-pub no_kind : (K : WordKind → Type 0) → ((kind : WordKind) → K kind → series_of_kind kind ≡ None) → (series : Series)
-    (n : ℕ) → ¬ K (kind_of series n)
-no_kind K outside series n is = no_variable (kind_of series n) series n (outside (kind_of series n) is) refl
+pub no_kind : (side : Side) (K : WordKind → Type 0) → ((kind : WordKind) → K kind → series_of_kind side kind ≡ None)
+    → (series : Series) (n : ℕ) → ¬ K (kind_of side series n)
+no_kind side K outside series n is =
+    no_variable side (kind_of side series n) series n (outside (kind_of side series n) is) refl
 
 -- ---- among all lists
 
 -- the variable of a list's value stands for this value
-pub any_series_back : (series : Series) (n : ℕ) → any_series_of_kind (kind_of series n) ≡ Some (among_all series, n)
-any_series_back Inputs n = refl
-any_series_back Line n = refl
-any_series_back Noise n = refl
+pub any_series_back : (side : Side) (series : Series) (n : ℕ)
+    → any_series_of_kind side (kind_of side series n) ≡ Some (among_all series, n)
+any_series_back side Inputs n = refl
+any_series_back Board Line n = refl
+any_series_back Board Noise n = refl
+any_series_back Machine Line n = refl
+any_series_back Machine Noise n = refl
+
+-- what names a value of a list that has no waits names it among all
+named_among : (side : Side) (series : Series) (m : ℕ) (named : AnySeries × ℕ)
+    → ◌≡◌ {A = Option (AnySeries × ℕ)} (Some (among_all series, m)) (Some named)
+    → (found : Series) × (named.0 ≡ among_all found) × (kind_of side series m ≡ kind_of side found named.1)
+named_among side series m named is =
+    let same = same_Some (among_all series, m) named is in
+    (series,
+    sym (ap (λ (v : AnySeries × ℕ). v.0) same),
+    ap (λ (v : AnySeries × ℕ). kind_of side series v.1) same)
 
 -- a list's value that has a variable is one of a list without waits
-pub any_named : (kind : WordKind) (named : AnySeries × ℕ) → any_series_of_kind kind ≡ Some named
-    → (series : Series) × (named.0 ≡ among_all series) × (kind ≡ kind_of series named.1)
-any_named (kinds.Input m) named is =
-    let same = same_Some (all.Inputs, m) named is in
-    (Inputs, sym (ap (λ (v : AnySeries × ℕ). v.0) same), ap (λ (v : AnySeries × ℕ). kind_of Inputs v.1) same)
-any_named (kinds.Line m) named is =
-    let same = same_Some (all.Line, m) named is in
-    (Line, sym (ap (λ (v : AnySeries × ℕ). v.0) same), ap (λ (v : AnySeries × ℕ). kind_of Line v.1) same)
-any_named (kinds.Noise m) named is =
-    let same = same_Some (all.Noise, m) named is in
-    (Noise, sym (ap (λ (v : AnySeries × ℕ). v.0) same), ap (λ (v : AnySeries × ℕ). kind_of Noise v.1) same)
-any_named kind named is = absurd cc
+pub any_named : (side : Side) (kind : WordKind) (named : AnySeries × ℕ) → any_series_of_kind side kind ≡ Some named
+    → (series : Series) × (named.0 ≡ among_all series) × (kind ≡ kind_of side series named.1)
+any_named side (kinds.Input m) named is = named_among side Inputs m named is
+any_named Board (kinds.Line m) named is = named_among Board Line m named is
+any_named Board (kinds.Noise m) named is = named_among Board Noise m named is
+any_named Machine (kinds.BesideLine m) named is = named_among Machine Line m named is
+any_named Machine (kinds.BesideNoise m) named is = named_among Machine Noise m named is
+any_named side kind named is = absurd cc
 
 -- lists are among all as many
 pub apart_among : (one other : Series) → one ≢ other → among_all one ≢ among_all other

@@ -1,8 +1,9 @@
 -- A board whose elements have terms in place of values.
-use Rattle.std.specs.Prelude.{ℕ, List, slice_index}
+use Rattle.std.specs.Prelude.{ℕ, List, Option, slice_index}
 use Rattle.mw_cycle.specs.declared.elements.Element.{Element}
 use Rattle.mw_cycle.specs.declared.elements.Element.TheVariants.{Register, Q, Mar, Ir, FlipFlop, Pc, R, StackWord}
 use Rattle.mw_term.specs.declared.event.SymEvent.{SymEvent}
+use Rattle.mw_term.specs.declared.side.Side.{Side}
 use Rattle.mw_term.specs.MemoryRead.{Held}
 
 -- a term for each element
@@ -27,10 +28,12 @@ term_of_part p Pc = p.pc
 term_of_part p R = p.r
 term_of_part p (StackWord n) = slice_index p.stack n
 
--- Where a board is between two cycles: its control address and its stack pointer, which are numbers, the terms of its
--- elements, the writes of its side to the memory and its events, oldest first, how many cycles it has finished, and how
--- many inputs it has taken.
+-- Where a board is between two cycles: whose side of the memory it has, its control address and its stack pointer, which
+-- are numbers, the terms of its elements, the writes of its side to the memory and its events, oldest first, how many
+-- cycles it has finished, how many inputs it has taken, and the term of the next cycle's line, where that is there
+-- already.
 pub record Standing : Type 0 where
+  pub side : Side
   pub at : ℕ
   pub sp : ℕ
   pub parts : Parts
@@ -38,3 +41,4 @@ pub record Standing : Type 0 where
   pub events : List SymEvent
   pub cycle : ℕ
   pub taken : ℕ
+  pub line : Option ℕ

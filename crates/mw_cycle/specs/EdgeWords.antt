@@ -232,6 +232,7 @@ edge_words board m s reading leaving effect next l =
     record {
       list = pc.list;
       standing = record {
+        side = s.side;
         at = next;
         sp = sp_after effect.stack (depth_of board) s.sp;
         parts = parts_after board m s.parts s.sp made reading.y pc.term leaving.r effect.stack;
@@ -239,5 +240,6 @@ edge_words board m s reading leaving effect next l =
         events = s.events ++ shown m.d.from m.out reading.source reading.y;
         cycle = s.cycle + 1;
         taken = taken_after m.d.from s.taken;
+        line = None;
       };
     }

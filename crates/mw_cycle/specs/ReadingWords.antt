@@ -25,7 +25,7 @@ use Rattle.mw_cycle.specs.BoardTerms.{Parts, Standing}
 use Rattle.mw_cycle.specs.Boundary.{numbers}
 use Rattle.mw_cycle.specs.Control.{in_field}
 use Rattle.mw_cycle.specs.Cycle.{load_of}
-use Rattle.mw_term.specs.declared.kinds.WordKind.TheVariants.{Line, Noise}
+use Rattle.mw_cycle.specs.SteadySeries.{Line, Noise, kind_of}
 use Rattle.mw_term.specs.declared.op.Op.{Op}
 use Rattle.mw_term.specs.declared.op.Op.TheVariants.{And, Or, Xor, Sum, Cout, Ovf, Eq, Part}
 use Rattle.mw_term.specs.MemoryRead.{Held}
@@ -363,12 +363,16 @@ condition_words board m p sp n b =
     let bit = bit_words board p sp n m.condition b.bits b.list in
     bit_ended bit.bits (turned_words m.polarity bit.term bit.list)
 
--- The words that a cycle reads before its edge: the variables of its line and noise, D, what F is made of, the bits
--- that are read, each once, in the order of a board's lists, and the condition.
+-- the term of a cycle's line: the one that is there already, or else a variable
+abbrev pub line_words : Standing → WordList → Ended
+line_words s l = made_or s.line (with_variable (kind_of s.side Line s.cycle) 1) l
+
+-- The words that a cycle reads before its edge: the variables of its line, where that isn't there already, and of its
+-- noise, D, what F is made of, the bits that are read, each once, in the order of a board's lists, and the condition.
 unfoldable pub reading_words : BoardParts → Microword → Standing → WordList → HasRead
 reading_words board m s l =
-    let line = with_variable (Line s.cycle) 1 l in
-    let noise = with_variable (Noise s.cycle) 14 line.list in
+    let line = line_words s l in
+    let noise = with_variable (kind_of s.side Noise s.cycle) 14 line.list in
     let source = source_words board m.word s.parts s.writes s.taken m.d.from noise.list in
     let d = masked_words board.width m.d.mask source.term source.list in
     let made = sources_words board m s.parts s.sp line.term noise.term d.term d.list in

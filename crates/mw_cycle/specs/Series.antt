@@ -4,6 +4,8 @@ use Rattle.std.specs.List.{find}
 use Rattle.std.specs.Str.{bytes_eq}
 use Rattle.mw_term.specs.declared.kinds.WordKind.{WordKind}
 use Rattle.mw_term.specs.declared.kinds.WordKind.TheVariants as kinds
+use Rattle.mw_term.specs.declared.side.Side.{Side}
+use Rattle.mw_term.specs.declared.side.Side.TheVariants.{Board, Machine}
 use Rattle.mw_cycle.specs.declared.series.Series.{Series}
 use Rattle.mw_cycle.specs.declared.series.Series.TheVariants.{Inputs, Line, Noise, Wait}
 
@@ -29,10 +31,12 @@ width_of width Wait = 1
 unfoldable pub series_named : List ℕ → Option Series
 series_named name = find (λ series. bytes_eq name (keyword_of series)) all_series
 
--- the list and the number of the value that a variable stands for, where it is one of an environment; a wait bit has no
--- variable, since a case is one of an environment without waits
-abbrev pub series_of_kind : WordKind → Option (Series × ℕ)
-series_of_kind (kinds.Input n) = Some (Inputs, n)
-series_of_kind (kinds.Line n) = Some (Line, n)
-series_of_kind (kinds.Noise n) = Some (Noise, n)
-series_of_kind other = None
+-- The list and the number of the value that a variable stands for, where it is one of the environment of the board of a
+-- side. A wait bit has no variable, since a case is one of an environment without waits.
+abbrev pub series_of_kind : Side → WordKind → Option (Series × ℕ)
+series_of_kind side (kinds.Input n) = Some (Inputs, n)
+series_of_kind Board (kinds.Line n) = Some (Line, n)
+series_of_kind Board (kinds.Noise n) = Some (Noise, n)
+series_of_kind Machine (kinds.BesideLine n) = Some (Line, n)
+series_of_kind Machine (kinds.BesideNoise n) = Some (Noise, n)
+series_of_kind side other = None

@@ -2,6 +2,8 @@
 use Rattle.std.specs.Prelude.{ℕ, Bool, true, false, Option, Some, None}
 use Rattle.mw_term.specs.declared.kinds.WordKind.{WordKind}
 use Rattle.mw_term.specs.declared.kinds.WordKind.TheVariants as kinds
+use Rattle.mw_term.specs.declared.side.Side.{Side}
+use Rattle.mw_term.specs.declared.side.Side.TheVariants.{Board, Machine}
 use Rattle.mw_cycle.specs.declared.series.Series.{Series as AnySeries}
 use Rattle.mw_cycle.specs.declared.series.Series.TheVariants as all
 
@@ -28,15 +30,20 @@ width_of width Inputs = width
 width_of width Line = 1
 width_of width Noise = 14
 
--- the variable of its value with a number
-abbrev pub kind_of : Series → ℕ → WordKind
-kind_of Inputs n = kinds.Input n
-kind_of Line n = kinds.Line n
-kind_of Noise n = kinds.Noise n
+-- The variable of its value with a number, for the board of a side: one that stands beside another has a line and a noise
+-- of its own. Both take the same inputs.
+abbrev pub kind_of : Side → Series → ℕ → WordKind
+kind_of side Inputs n = kinds.Input n
+kind_of Board Line n = kinds.Line n
+kind_of Board Noise n = kinds.Noise n
+kind_of Machine Line n = kinds.BesideLine n
+kind_of Machine Noise n = kinds.BesideNoise n
 
--- the list and the number of the value that a variable stands for, where it is one of an environment
-abbrev pub series_of_kind : WordKind → Option (Series × ℕ)
-series_of_kind (kinds.Input n) = Some (Inputs, n)
-series_of_kind (kinds.Line n) = Some (Line, n)
-series_of_kind (kinds.Noise n) = Some (Noise, n)
-series_of_kind other = None
+-- the list and the number of the value that a variable stands for, where it is one of the environment of that board
+abbrev pub series_of_kind : Side → WordKind → Option (Series × ℕ)
+series_of_kind side (kinds.Input n) = Some (Inputs, n)
+series_of_kind Board (kinds.Line n) = Some (Line, n)
+series_of_kind Board (kinds.Noise n) = Some (Noise, n)
+series_of_kind Machine (kinds.BesideLine n) = Some (Line, n)
+series_of_kind Machine (kinds.BesideNoise n) = Some (Noise, n)
+series_of_kind side other = None

@@ -2,7 +2,7 @@
 ghost use Rattle.std.specs.Prelude.{◌≡◌, ◌≤◌};
 ghost use Rattle.mw_cycle.specs.Series.{all_series, keyword_of, series_named, series_of_kind, width_of};
 
-use mw_term::WordKind;
+use mw_term::{Side, WordKind};
 
 /// A list of an environment: what isn't in it is 0.
 #[derive(Clone, Copy, Debug, PartialEq, Eq)]
@@ -61,15 +61,18 @@ impl Series {
         ALL.iter().copied().find(|series| name == series.keyword())
     }
 
-    /// The list and the number of the value that a variable stands for, where it is one of an environment. A wait bit
-    /// has none.
-    pub fn of_kind(kind: WordKind) -> Option<(Series, u32)>
-        ensures { result ≡ series_of_kind kind }
+    /// The list and the number of the value that a variable stands for, where it is one of the environment of the board
+    /// of this side. A wait bit has none.
+    pub fn of_kind(side: Side, kind: WordKind) -> Option<(Series, u32)>
+        ensures { result ≡ series_of_kind side kind }
     {
-        match kind {
-            WordKind::Input(number) => Some((Series::Inputs, number)),
-            WordKind::Line(number) => Some((Series::Line, number)),
-            WordKind::Noise(number) => Some((Series::Noise, number)),
+        match (side, kind) {
+            (_, WordKind::Input(number)) => Some((Series::Inputs, number)),
+            (Side::Board, WordKind::Line(number)) | (Side::Machine, WordKind::BesideLine(number)) => {
+                Some((Series::Line, number))
+            }
+            (Side::Board, WordKind::Noise(number))
+            | (Side::Machine, WordKind::BesideNoise(number)) => Some((Series::Noise, number)),
             _ => None,
         }
     }

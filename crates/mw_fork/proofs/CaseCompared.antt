@@ -17,7 +17,7 @@ use Rattle.mw_term.specs.Functions.{Function, never}
 use Rattle.mw_term.specs.Rows.{bit}
 use Rattle.mw_term.specs.WordList.{WordList, table_in}
 use Rattle.mw_dd.specs.Diagrams.{IsFirst}
-use Rattle.mw_symmem.specs.declared.side.Side.TheVariants.{Board, Machine}
+use Rattle.mw_term.specs.declared.side.Side.TheVariants.{Board, Machine}
 use Rattle.mw_symmem.specs.Memory.{held_by}
 use Rattle.mw_symmem.specs.Words.{HaveOwnKinds}
 use Rattle.mw_symboard.specs.Seen.{AreFirst}

@@ -2,7 +2,7 @@
 use Rattle.std.proofs.Common.{◌≡◌, ap, subst, sym, ◌∙◌, refl, ℕ, List, ◌∷◌, ◌++◌, append_assoc, slice_index}
 use Rattle.std.specs.Prelude.{None, Option, Some, Result, Ok, Err}
 use Rattle.mw_rel.specs.ComparisonWords.{Compared, Comparison, Sides, Subject, compared_in, with_comparison}
-use Rattle.mw_symmem.specs.declared.side.Side.TheVariants.{Board, Machine}
+use Rattle.mw_term.specs.declared.side.Side.TheVariants.{Board, Machine}
 use Rattle.mw_symmem.proofs.Later.{goes_then, width_later, writes_then}
 use Rattle.mw_term.specs.Assigned.{Numbers}
 use Rattle.mw_term.specs.Cofactors.{Agree}

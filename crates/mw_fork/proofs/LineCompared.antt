@@ -16,7 +16,7 @@ use Rattle.mw_rel.specs.Rules.{IsLineOf}
 use Rattle.mw_symmach.proofs.Making.{shape_with, values_same}
 use Rattle.mw_symmach.specs.Expressions.{AreTerms, IsBase, IsMade, IsReady, Runs, shape_over, values_at}
 use Rattle.mw_symmem.proofs.Later.{goes_as, held_by_stays, image_before, images_fit_before, width_later}
-use Rattle.mw_symmem.specs.declared.side.Side.TheVariants.{Machine}
+use Rattle.mw_term.specs.declared.side.Side.TheVariants.{Machine}
 use Rattle.mw_symmem.specs.Memory.{FitImage, IsImage, IsOfWidth, Memory, held_by}
 use Rattle.mw_symmem.specs.Workspace.{IsWorkspace}
 use Rattle.mw_term.specs.Assigned.{Given, Numbers, given_by}

@@ -3,8 +3,8 @@ use Rattle.std.proofs.Common.{◌≡◌, ap, subst, sym, ◌∙◌, ℕ, ◌<◌
 use Rattle.std.specs.Prelude.{IfOk, IfSome, None, OnOk, Option, Some, Result, Ok, Err}
 use Rattle.mw_expr.specs.declared.shape.Shape.{Shape}
 use Rattle.mw_rel.specs.ComparisonWords.{Compared, Sides, compared_in, memory, with_comparison, with_memory}
-use Rattle.mw_symmem.specs.declared.side.Side.{Side}
-use Rattle.mw_symmem.specs.declared.side.Side.TheVariants as sides
+use Rattle.mw_term.specs.declared.side.Side.{Side}
+use Rattle.mw_term.specs.declared.side.Side.TheVariants as sides
 use Rattle.mw_symmem.specs.Listed.{Lists, list_in}
 use Rattle.mw_symmem.specs.Memory.{AddsRead, IsMemory, IsOfWidth, IsRead, Memory, with_read, writes_of}
 use Rattle.mw_symmem.specs.Words.{AreOf, IsVariable}

@@ -19,7 +19,7 @@ use Rattle.mw_term.specs.declared.event.SymEvent.TheVariants.{Out, Taken}
 use Rattle.mw_term.specs.Functions.{Function}
 use Rattle.mw_term.specs.Table.{Table}
 use Rattle.mw_term.specs.Values.{term_value}
-use Rattle.mw_symmem.specs.declared.side.Side.TheVariants.{Board, Machine}
+use Rattle.mw_term.specs.declared.side.Side.TheVariants.{Board, Machine}
 use Rattle.mw_symmem.specs.Memory.{FitImage, IsImage, IsOfWidth, held_by}
 use Rattle.mw_symmem.proofs.Later.{held_by_stays}
 use Rattle.mw_symboard.specs.Laws.{run_in}

@@ -21,7 +21,7 @@ use Rattle.mw_term.specs.Values.{term_value}
 use Rattle.mw_term.specs.WordList.{WordList, word_number, table_in}
 use Rattle.mw_dd.specs.Diagrams.{IsFirst}
 use Rattle.mw_blast.specs.Causes.{IsOver}
-use Rattle.mw_symmem.specs.declared.side.Side.TheVariants as sides
+use Rattle.mw_term.specs.declared.side.Side.TheVariants as sides
 use Rattle.mw_symmem.specs.Memory.{FitImage, IsImage, IsOfWidth, held_by}
 use Rattle.mw_symmem.specs.Words.{IsVariable}
 use Rattle.mw_symmem.specs.Workspace.{GoesOn, KeepsWrites}

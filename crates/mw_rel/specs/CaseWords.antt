@@ -21,6 +21,7 @@ use Rattle.mw_rel.specs.Relation.{Boundary}
 use Rattle.mw_rel.specs.Start.{addresses_of}
 use Rattle.mw_rel.specs.StartWords.{start_words}
 use Rattle.mw_term.specs.declared.kinds.WordKind.TheVariants.{Line}
+use Rattle.mw_term.specs.declared.side.Side.TheVariants.{Board}
 use Rattle.mw_term.specs.WordList.{WordList, term_of}
 
 -- How far a case has come: the words so far, and of a whole case those of its comparison too; where it wants another
@@ -58,6 +59,7 @@ parts_with board terms = record {
 -- where the board is at a boundary, at which all elements have these terms
 abbrev pub standing_at : BoardParts → Boundary → (terms : List ℕ) → Standing
 standing_at board boundary terms = record {
+  side = Board;
   at = boundary.address;
   sp = boundary.sp;
   parts = parts_with board terms;
@@ -65,6 +67,7 @@ standing_at board boundary terms = record {
   events = [];
   cycle = 0;
   taken = 0;
+  line = None;
 }
 
 -- ---- its comparison

@@ -18,7 +18,7 @@ use Rattle.mw_term.specs.declared.decided.DecidedKind.{DecidedKind}
 use Rattle.mw_term.specs.Assigned.{Given}
 use Rattle.mw_term.specs.MemoryRead.{Held, held}
 use Rattle.mw_term.specs.Table.{Table}
-use Rattle.mw_symmem.specs.declared.side.Side.TheVariants as side
+use Rattle.mw_term.specs.declared.side.Side.TheVariants as side
 use Rattle.mw_term.specs.declared.event.SymEvent.{SymEvent}
 use Rattle.mw_term.specs.declared.event.SymEvent.TheVariants.{Out, Taken}
 use Rattle.mw_symmem.specs.declared.turn.Turn.{Turn}

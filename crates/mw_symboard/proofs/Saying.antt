@@ -18,7 +18,7 @@ use Rattle.mw_term.specs.Table.{Table, IsTable, op_width, term_width, width_over
 use Rattle.mw_term.specs.Values.{op_value, term_value, value_over}
 use Rattle.mw_term.proofs.Tables.{terms_have_ops, widths_count, words_of}
 use Rattle.mw_symboard.proofs.Standing.{found_stays}
-use Rattle.mw_symmem.specs.declared.side.Side.TheVariants as side
+use Rattle.mw_term.specs.declared.side.Side.TheVariants as side
 use Rattle.mw_term.specs.declared.word.Word.{Word}
 use Rattle.mw_term.specs.WordList.{is_of, term_of}
 use Rattle.mw_symmem.specs.Words.{AreOf}

@@ -32,7 +32,7 @@ use Rattle.mw_term.specs.Assigned.{Given}
 use Rattle.mw_term.specs.MemoryRead.{held}
 use Rattle.mw_term.specs.Table.{Table, IsTable}
 use Rattle.mw_term.specs.Values.{term_value}
-use Rattle.mw_symmem.specs.declared.side.Side.TheVariants as side
+use Rattle.mw_term.specs.declared.side.Side.TheVariants as side
 use Rattle.mw_term.specs.declared.word.Word.{Word}
 use Rattle.mw_symmem.specs.Memory.{Memory, after, held_by, valued}
 use Rattle.mw_symboard.specs.declared.leaving.Leaving.{Leaving}

@@ -30,7 +30,7 @@ use Rattle.mw_term.specs.declared.kinds.WordKind.TheVariants.{Input}
 use Rattle.mw_term.specs.declared.op.Op.TheVariants.{Con, Not, And, Or, Xor, Sum, Eq, Part, Join, Tab}
 use Rattle.mw_term.specs.Table.{Table, Extends}
 use Rattle.mw_term.specs.Values.{Keeps}
-use Rattle.mw_symmem.specs.declared.side.Side.TheVariants as side
+use Rattle.mw_term.specs.declared.side.Side.TheVariants as side
 use Rattle.mw_term.specs.declared.word.Word.{Word}
 use Rattle.mw_symmem.specs.Memory.{Memory, IsMemory}
 use Rattle.mw_term.specs.WordList.{is_of, term_of}

@@ -36,7 +36,7 @@ use Rattle.mw_term.specs.declared.kinds.WordKind.TheVariants.{Input}
 use Rattle.mw_term.specs.declared.op.Op.{Op}
 use Rattle.mw_term.specs.declared.op.Op.TheVariants.{Con, Not, And, Or, Xor, Sum, Cout, Ovf, Eq, Part, Join, Tab}
 use Rattle.mw_term.specs.Table.{Table}
-use Rattle.mw_symmem.specs.declared.side.Side.TheVariants as side
+use Rattle.mw_term.specs.declared.side.Side.TheVariants as side
 use Rattle.mw_term.specs.declared.word.Word.{Word}
 use Rattle.mw_term.specs.WordList.{term_of}
 use Rattle.mw_symmem.specs.Memory.{Memory, IsRead}

@@ -24,7 +24,7 @@ use Rattle.mw_term.specs.declared.event.SymEvent.TheVariants.{Out, Taken}
 use Rattle.mw_symmem.specs.declared.turn.Turn.{Turn}
 use Rattle.mw_symmem.specs.declared.turn.Turn.TheVariants.{Ask, Finished}
 use Rattle.mw_term.specs.declared.word.Word.{Word}
-use Rattle.mw_symmem.specs.declared.side.Side.TheVariants as side
+use Rattle.mw_term.specs.declared.side.Side.TheVariants as side
 use Rattle.mw_symmem.specs.Memory.{Memory, memory_of, with_write, IsOfWidth}
 use Rattle.mw_term.specs.WordList.{term_of}
 use Rattle.mw_symboard.specs.declared.reading.Reading.{Reading}

@@ -4,7 +4,7 @@ ghost use Rattle.mw_board.specs.Valid.{IsMask};
 ghost use Rattle.mw_cycle.specs.Microword.{IsMicroword};
 ghost use Rattle.mw_term.specs.declared.kinds.WordKind.TheVariants.{Input};
 ghost use Rattle.mw_term.specs.Table.{IsWidth};
-ghost use Rattle.mw_symmem.specs.declared.side.Side.TheVariants as side;
+ghost use Rattle.mw_term.specs.declared.side.Side.TheVariants as side;
 ghost use Rattle.mw_symmem.specs.Memory.{IsOfWidth, IsRead};
 ghost use Rattle.mw_term.specs.WordList.{memory_read_words, term_of, with_input};
 ghost use Rattle.mw_symmem.specs.Workspace.{GoesOn, IsWorkspace, KeepsWrites};

@@ -23,7 +23,7 @@ use Rattle.mw_term.specs.MemoryRead.{Held, held}
 use Rattle.mw_term.specs.declared.op.Op.TheVariants.{Var}
 use Rattle.mw_term.specs.Table.{Table, Extends, IsTable, op_width, term_width}
 use Rattle.mw_term.specs.Values.{IsTermOf, Keeps, term_value}
-use Rattle.mw_symmem.specs.declared.side.Side.TheVariants.{Board, Machine}
+use Rattle.mw_term.specs.declared.side.Side.TheVariants.{Board, Machine}
 use Rattle.mw_term.specs.declared.event.SymEvent.{SymEvent}
 use Rattle.mw_term.specs.declared.event.SymEvent.TheVariants.{Out, Taken}
 use Rattle.mw_term.specs.declared.word.Word.{Word}

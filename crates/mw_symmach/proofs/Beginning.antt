@@ -8,7 +8,7 @@ use Rattle.mw_macro.specs.Machine.{Description, IsFormed}
 use Rattle.mw_term.specs.Assigned.{Given}
 use Rattle.mw_term.specs.Table.{Table, IsTable}
 use Rattle.mw_term.specs.Values.{term_value}
-use Rattle.mw_symmem.specs.declared.side.Side.TheVariants.{Machine}
+use Rattle.mw_term.specs.declared.side.Side.TheVariants.{Machine}
 use Rattle.mw_term.specs.declared.word.Word.{Word}
 use Rattle.mw_symmem.specs.Memory.{Memory, IsOfWidth, held_by}
 use Rattle.mw_symmem.specs.Steps.{Grows}

@@ -17,7 +17,7 @@ use Rattle.mw_macro.specs.Statements.{Act, assign, write, put, take_in, choose, 
 use Rattle.mw_term.specs.declared.kinds.WordKind.TheVariants.{Input}
 use Rattle.mw_term.specs.Assigned.{Given}
 use Rattle.mw_term.specs.Table.{Table}
-use Rattle.mw_symmem.specs.declared.side.Side.TheVariants.{Board, Machine}
+use Rattle.mw_term.specs.declared.side.Side.TheVariants.{Board, Machine}
 use Rattle.mw_term.specs.declared.word.Word.{Word}
 use Rattle.mw_term.specs.WordList.{variable}
 use Rattle.mw_symmem.specs.Words.{IsVariable}

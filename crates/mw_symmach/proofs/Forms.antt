@@ -15,7 +15,7 @@ use Rattle.mw_term.specs.Assigned.{Given}
 use Rattle.mw_term.specs.MemoryRead.{held}
 use Rattle.mw_term.specs.Table.{Table, Extends, term_width, widths_of, ArePair, IsBit, IsTable}
 use Rattle.mw_term.specs.Values.{Keeps, term_value}
-use Rattle.mw_symmem.specs.declared.side.Side.{Side}
+use Rattle.mw_term.specs.declared.side.Side.{Side}
 use Rattle.mw_term.specs.declared.word.Word.{Word}
 use Rattle.mw_symmem.specs.Words.{AreOf}
 use Rattle.mw_symmem.specs.Memory.{Memory, IsMemory, IsRead, IsImage, IsOfWidth, FitImage, AddsRead, held_by, with_read}

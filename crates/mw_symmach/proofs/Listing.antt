@@ -12,7 +12,7 @@ use Rattle.mw_term.specs.declared.word.Word.{Word}
 use Rattle.mw_term.specs.Table.{Table, term_width}
 use Rattle.mw_term.specs.WordList.{WordList, Ended, AllEnded, ended, list_of, memory_read_words, with_constant}
 use Rattle.mw_term.specs.WordList.{with_part, with_word, with_zeros_above}
-use Rattle.mw_symmem.specs.declared.side.Side.{Side}
+use Rattle.mw_term.specs.declared.side.Side.{Side}
 use Rattle.mw_symmem.specs.Listed.{list_in, Lists, ListsAllOver, ListsOver}
 use Rattle.mw_symmem.specs.Memory.{Memory, writes_of}
 use Rattle.mw_symmach.specs.Expressions.{AreTerms, IsMade, Runs, shape_over}

@@ -15,7 +15,7 @@ use Rattle.mw_macro.specs.Counts.{reads}
 use Rattle.mw_term.specs.Assigned.{Given}
 use Rattle.mw_term.specs.Table.{Table, term_width, IsWidth}
 use Rattle.mw_term.specs.Values.{Keeps}
-use Rattle.mw_symmem.specs.declared.side.Side.{Side}
+use Rattle.mw_term.specs.declared.side.Side.{Side}
 use Rattle.mw_term.specs.declared.word.Word.{Word}
 use Rattle.mw_symmem.specs.Memory.{Memory, IsMemory, IsImage, FitImage, held_by}
 use Rattle.mw_symmem.specs.Workspace.{IsLater, IsWorkspace, ReadsMore}

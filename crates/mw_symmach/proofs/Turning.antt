@@ -16,7 +16,7 @@ use Rattle.mw_symmem.specs.declared.turn.Turn.TheVariants.{Finished}
 use Rattle.mw_term.specs.declared.decided.DecidedKind.TheVariants.{Branch}
 use Rattle.mw_term.specs.Assigned.{Given}
 use Rattle.mw_term.specs.Table.{Table}
-use Rattle.mw_symmem.specs.declared.side.Side.TheVariants.{Machine}
+use Rattle.mw_term.specs.declared.side.Side.TheVariants.{Machine}
 use Rattle.mw_term.specs.declared.word.Word.{Word}
 use Rattle.mw_symmem.specs.Memory.{Memory, held_by}
 use Rattle.mw_symmem.specs.Workspace.{GoesOn}

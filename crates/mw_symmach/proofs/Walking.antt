@@ -13,7 +13,7 @@ use Rattle.mw_term.specs.declared.word.Word.{Word}
 use Rattle.mw_term.specs.MemoryRead.{Held, held}
 use Rattle.mw_term.specs.Table.{Table}
 use Rattle.mw_term.specs.WordList.{Ended, ended, with_input}
-use Rattle.mw_symmem.specs.declared.side.Side.TheVariants.{Machine}
+use Rattle.mw_term.specs.declared.side.Side.TheVariants.{Machine}
 use Rattle.mw_symmem.specs.Listed.{list_in, Lists, ListsOver}
 use Rattle.mw_symmem.specs.Memory.{Memory, with_write}
 use Rattle.mw_symmach.specs.Expressions.{IsMade}

@@ -12,8 +12,8 @@ use Rattle.mw_term.specs.MemoryRead.{Held, held}
 use Rattle.mw_term.specs.Table.{Table, Extends, IsTable, IsWidth, ArePair, IsBit, widths_of, op_width}
 use Rattle.mw_term.specs.Values.{Keeps, IsTermOf, term_value, values_after, op_value}
 use Rattle.mw_term.proofs.Tables.{widths_count, words_of}
-use Rattle.mw_symmem.specs.declared.side.Side.{Side}
-use Rattle.mw_symmem.specs.declared.side.Side.TheVariants.{Board, Machine}
+use Rattle.mw_term.specs.declared.side.Side.{Side}
+use Rattle.mw_term.specs.declared.side.Side.TheVariants.{Board, Machine}
 use Rattle.mw_term.specs.declared.word.Word.{Word}
 use Rattle.mw_term.specs.WordList.{plain, variable}
 use Rattle.mw_symmem.specs.Words.{IsVariable, AreOf}

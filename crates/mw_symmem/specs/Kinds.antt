@@ -5,7 +5,8 @@ use Rattle.std.proofs.Common.{ap, refl, sym, ◌∙◌}
 use Rattle.std.proofs.lemmas.Bool.{eqb-true, eq-eqb}
 use Rattle.std.proofs.lemmas.Bool as bool
 use Rattle.mw_term.specs.declared.kinds.WordKind.{WordKind}
-use Rattle.mw_term.specs.declared.kinds.WordKind.TheVariants.{Element, Line, Noise, Base, Input, Probe}
+use Rattle.mw_term.specs.declared.kinds.WordKind.TheVariants.{Element, Line, Noise, BesideLine, BesideNoise, Base}
+use Rattle.mw_term.specs.declared.kinds.WordKind.TheVariants.{Input, Probe}
 use Rattle.mw_term.specs.WordList.{same_kind}
 use Rattle.mw_symmem.specs.declared.key.Key.{Key}
 
@@ -14,6 +15,8 @@ abbrev pub number_in : WordKind → ℕ
 number_in (Element n) = n
 number_in (Line n) = n
 number_in (Noise n) = n
+number_in (BesideLine n) = n
+number_in (BesideNoise n) = n
 number_in (Base n) = n
 number_in (Input n) = n
 number_in Probe = 0
@@ -25,6 +28,8 @@ pub kind_is : (a b : WordKind) → same_kind a b ≡ true → a ≡ b
 kind_is (Element m) (Element n) same = ap Element (eqb-true m n same)
 kind_is (Line m) (Line n) same = ap Line (eqb-true m n same)
 kind_is (Noise m) (Noise n) same = ap Noise (eqb-true m n same)
+kind_is (BesideLine m) (BesideLine n) same = ap BesideLine (eqb-true m n same)
+kind_is (BesideNoise m) (BesideNoise n) same = ap BesideNoise (eqb-true m n same)
 kind_is (Base m) (Base n) same = ap Base (eqb-true m n same)
 kind_is (Input m) (Input n) same = ap Input (eqb-true m n same)
 kind_is Probe Probe same = refl
@@ -35,6 +40,8 @@ pub kind_own : (a : WordKind) → same_kind a a ≡ true
 kind_own (Element m) = eq-eqb m m refl
 kind_own (Line m) = eq-eqb m m refl
 kind_own (Noise m) = eq-eqb m m refl
+kind_own (BesideLine m) = eq-eqb m m refl
+kind_own (BesideNoise m) = eq-eqb m m refl
 kind_own (Base m) = eq-eqb m m refl
 kind_own (Input m) = eq-eqb m m refl
 kind_own Probe = refl

@@ -9,8 +9,8 @@ use Rattle.mw_term.specs.Assigned.{Given}
 use Rattle.mw_term.specs.MemoryRead.{Held, held}
 use Rattle.mw_term.specs.Table.{Table, Extends, IsTable, IsWidth, Fits, term_width}
 use Rattle.mw_term.specs.Values.{IsTermOf, Keeps, term_value}
-use Rattle.mw_symmem.specs.declared.side.Side.{Side}
-use Rattle.mw_symmem.specs.declared.side.Side.TheVariants.{Board, Machine}
+use Rattle.mw_term.specs.declared.side.Side.{Side}
+use Rattle.mw_term.specs.declared.side.Side.TheVariants.{Board, Machine}
 use Rattle.mw_term.specs.declared.word.Word.{Word}
 use Rattle.mw_term.specs.WordList.{plain, variable}
 use Rattle.mw_symmem.specs.Words.{IsVariable}

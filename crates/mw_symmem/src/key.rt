@@ -22,6 +22,8 @@ impl Key {
             WordKind::Element(number)
             | WordKind::Line(number)
             | WordKind::Noise(number)
+            | WordKind::BesideLine(number)
+            | WordKind::BesideNoise(number)
             | WordKind::Base(number)
             | WordKind::Input(number) => number,
             WordKind::Probe => 0,

@@ -7,7 +7,6 @@ mod key;
 mod laws;
 mod memory;
 mod read;
-mod side;
 mod turn;
 mod words;
 
@@ -16,7 +15,6 @@ pub use laws::{
     reads_stay, stays_with_words, stays_with_writes,
 };
 pub use memory::SymMemory;
-pub use mw_term::{Decided, DecidedKind, Prefix, SymEvent, WordKind};
-pub use side::Side;
+pub use mw_term::{Decided, DecidedKind, Prefix, Side, SymEvent, WordKind};
 pub use turn::Turn;
 pub use words::Words;

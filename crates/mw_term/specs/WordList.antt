@@ -3,7 +3,8 @@
 use Rattle.std.specs.Prelude.{ℕ, ◌+◌, ◌-◌, List, [], ◌∷◌, ◌++◌, length, ◌==◌, if◌then◌else◌, Bool, true, false, Option}
 use Rattle.std.specs.Prelude.{Some, None}
 use Rattle.mw_term.specs.declared.kinds.WordKind.{WordKind}
-use Rattle.mw_term.specs.declared.kinds.WordKind.TheVariants.{Element, Line, Noise, Base, Input, Probe}
+use Rattle.mw_term.specs.declared.kinds.WordKind.TheVariants.{Element, Line, Noise, BesideLine, BesideNoise, Base}
+use Rattle.mw_term.specs.declared.kinds.WordKind.TheVariants.{Input, Probe}
 use Rattle.mw_term.specs.declared.op.Op.{Op}
 use Rattle.mw_term.specs.declared.op.Op.TheVariants.{Con, Var, Not, Sum, Eq, Ite, Part, Join}
 use Rattle.mw_term.specs.declared.word.Word.{Word}
@@ -54,6 +55,8 @@ abbrev pub same_kind : (a b : WordKind) → Bool
 same_kind (Element m) (Element n) = m == n
 same_kind (Line m) (Line n) = m == n
 same_kind (Noise m) (Noise n) = m == n
+same_kind (BesideLine m) (BesideLine n) = m == n
+same_kind (BesideNoise m) (BesideNoise n) = m == n
 same_kind (Base m) (Base n) = m == n
 same_kind (Input m) (Input n) = m == n
 same_kind Probe Probe = true

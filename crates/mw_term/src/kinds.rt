@@ -9,6 +9,10 @@ pub enum WordKind {
     Line(u32),
     /// The noise word of the cycle of this number.
     Noise(u32),
+    /// The interrupt line in the cycle of this number of a board beside another.
+    BesideLine(u32),
+    /// The noise word of the cycle of this number of a board beside another.
+    BesideNoise(u32),
     /// What the memory has at the address of the base read of this number.
     Base(u32),
     /// The input of this number.

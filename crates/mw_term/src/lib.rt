@@ -13,6 +13,7 @@ mod kinds;
 mod laws;
 mod op;
 mod places;
+mod side;
 mod terms;
 mod word;
 mod words;
@@ -32,6 +33,7 @@ pub use laws::{
 };
 pub use op::{Op, Term};
 pub use places::Places;
+pub use side::Side;
 pub use terms::Terms;
 pub use word::Word;
 pub use written::Written;

@@ -1,5 +1,5 @@
 use Rattle.std.proofs.Common.{refl, ◌∙◌}
-use Rattle.mw_symmem.specs.declared.side.Side.TheVariants.{Machine}
+use Rattle.mw_term.specs.declared.side.Side.TheVariants.{Machine}
 use Rattle.mw_rel.specs.Seen.{line_of}
 use Rattle.mw_rel.specs.Views.{job_of}
 use Rattle.mw_course.proofs.Boundaries.{own_later, ready, wide_set}

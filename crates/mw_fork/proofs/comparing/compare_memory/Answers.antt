@@ -3,7 +3,7 @@ use Rattle.std.proofs.lemmas.Result.{on_ok_weaker}
 use Rattle.mw_rel.specs.ComparisonWords.{memory, with_memory}
 use Rattle.mw_rel.specs.Views.{job_of}
 use Rattle.mw_rel.proofs.Standing.{board_address}
-use Rattle.mw_symmem.specs.declared.side.Side.TheVariants as sides
+use Rattle.mw_term.specs.declared.side.Side.TheVariants as sides
 use Rattle.mw_symmem.proofs.Later.{width_later}
 use Rattle.mw_course.specs.declared.elements.Space.{Space}
 use Rattle.mw_fork.specs.Comparing.{GoesComparing}

@@ -1,4 +1,4 @@
-use Rattle.mw_symmem.specs.declared.side.Side.TheVariants.{Board}
+use Rattle.mw_term.specs.declared.side.Side.TheVariants.{Board}
 use Rattle.mw_symmem.proofs.Later.{writes_by_read}
 use Rattle.mw_symboard.proofs.Sources.{goes_by_base, goes_as_source}
 use Rattle.mw_symboard.proofs.VariableWidths.{widths_by_read}

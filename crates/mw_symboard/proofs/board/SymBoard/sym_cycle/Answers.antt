@@ -1,7 +1,7 @@
 use Rattle.std.proofs.Common.{◌+◌, ap, arith, sym, ◌∙◌, refl, subst, ◌≡◌}
 use Rattle.mw_term.specs.MemoryRead.{Held}
 use Rattle.std.specs.Prelude.{List}
-use Rattle.mw_symmem.specs.declared.side.Side.TheVariants as side
+use Rattle.mw_term.specs.declared.side.Side.TheVariants as side
 use Rattle.mw_symmem.proofs.Later.{reads_itself}
 use Rattle.mw_symboard.specs.Kinds.{IsCycleKind}
 use Rattle.mw_symboard.specs.Seen.{Progress}

@@ -3,7 +3,7 @@ use Rattle.mw_expr.specs.Tree.{view}
 use Rattle.mw_macro.specs.Counts.{reads}
 use Rattle.mw_macro.specs.Statements.{write}
 use Rattle.mw_term.specs.MemoryRead.{held}
-use Rattle.mw_symmem.specs.declared.side.Side.TheVariants.{Machine}
+use Rattle.mw_term.specs.declared.side.Side.TheVariants.{Machine}
 use Rattle.mw_symmem.specs.Memory.{with_write}
 use Rattle.mw_symmach.specs.Steps.{Stands, Acted, parts_of}
 use Rattle.mw_symmach.proofs.Acting.{ready_of, write_parts, stands_after, acted_write}
