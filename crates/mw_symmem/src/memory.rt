@@ -16,10 +16,9 @@ ghost use Rattle.mw_symmem.specs.Words.{AreOf};
 use crate::held::Held;
 use crate::image::image;
 use crate::read::{base_value, same, side_value};
-use crate::side::Side;
 use crate::words::Words;
 use mw_base::NoMemory;
-use mw_term::{Assignment, Term, WordKind, Written};
+use mw_term::{Assignment, Side, Term, WordKind, Written};
 use std::alloc::Global;
 use std::marker::Model;
 
