@@ -90,10 +90,11 @@ named_among : (side : Side) (series : Series) (m : ℕ) (named : AnySeries × �
     → ◌≡◌ {A = Option (AnySeries × ℕ)} (Some (among_all series, m)) (Some named)
     → (found : Series) × (named.0 ≡ among_all found) × (kind_of side series m ≡ kind_of side found named.1)
 named_among side series m named is =
-    let same = same_Some (among_all series, m) named is in
-    (series,
-    sym (ap (λ (v : AnySeries × ℕ). v.0) same),
-    ap (λ (v : AnySeries × ℕ). kind_of side series v.1) same)
+    let same = same_Some (among_all series, m) named is in (
+      series,
+      sym (ap (λ (v : AnySeries × ℕ). v.0) same),
+      ap (λ (v : AnySeries × ℕ). kind_of side series v.1) same,
+    )
 
 -- a list's value that has a variable is one of a list without waits
 pub any_named : (side : Side) (kind : WordKind) (named : AnySeries × ℕ) → any_series_of_kind side kind ≡ Some named

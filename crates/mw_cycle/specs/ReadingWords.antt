@@ -28,6 +28,7 @@ use Rattle.mw_cycle.specs.Cycle.{load_of}
 use Rattle.mw_cycle.specs.SteadySeries.{Line, Noise, kind_of}
 use Rattle.mw_term.specs.declared.op.Op.{Op}
 use Rattle.mw_term.specs.declared.op.Op.TheVariants.{And, Or, Xor, Sum, Cout, Ovf, Eq, Part}
+use Rattle.mw_term.specs.declared.side.Side.{Side}
 use Rattle.mw_term.specs.MemoryRead.{Held}
 use Rattle.mw_term.specs.WordList.{WordList, Ended, ended, with_constant, with_word, with_variable, with_input}
 use Rattle.mw_term.specs.WordList.{with_complement, with_zeros_above, memory_read_words}
@@ -364,14 +365,14 @@ condition_words board m p sp n b =
     bit_ended bit.bits (turned_words m.polarity bit.term bit.list)
 
 -- the term of a cycle's line: the one that is there already, or else a variable
-abbrev pub line_words : Standing → WordList → Ended
-line_words s l = made_or s.line (with_variable (kind_of s.side Line s.cycle) 1) l
+abbrev pub line_words : Side → (cycle : ℕ) → Option ℕ → WordList → Ended
+line_words side cycle line l = made_or line (with_variable (kind_of side Line cycle) 1) l
 
 -- The words that a cycle reads before its edge: the variables of its line, where that isn't there already, and of its
 -- noise, D, what F is made of, the bits that are read, each once, in the order of a board's lists, and the condition.
 unfoldable pub reading_words : BoardParts → Microword → Standing → WordList → HasRead
 reading_words board m s l =
-    let line = line_words s l in
+    let line = line_words s.side s.cycle s.line l in
     let noise = with_variable (kind_of s.side Noise s.cycle) 14 line.list in
     let source = source_words board m.word s.parts s.writes s.taken m.d.from noise.list in
     let d = masked_words board.width m.d.mask source.term source.list in

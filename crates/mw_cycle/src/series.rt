@@ -68,9 +68,8 @@ impl Series {
     {
         match (side, kind) {
             (_, WordKind::Input(number)) => Some((Series::Inputs, number)),
-            (Side::Board, WordKind::Line(number)) | (Side::Machine, WordKind::BesideLine(number)) => {
-                Some((Series::Line, number))
-            }
+            (Side::Board, WordKind::Line(number)) | (Side::Machine, WordKind::BesideLine(number)) =>
+                { Some((Series::Line, number)) }
             (Side::Board, WordKind::Noise(number))
             | (Side::Machine, WordKind::BesideNoise(number)) => Some((Series::Noise, number)),
             _ => None,

@@ -1,6 +1,6 @@
 -- A symbolic board before its first cycle.
 use Rattle.std.proofs.Common.{◌≡◌, ℕ, ◌+◌, ◌<◌, ◌≤◌, ◌^◌, List, [], length, slice_index, refl, ap, arith, sym, subst}
-use Rattle.std.specs.Prelude.{None}
+use Rattle.std.specs.Prelude.{None, Some}
 use Rattle.mw_board.specs.declared.parts.BoardParts.{BoardParts}
 use Rattle.mw_board.specs.Depth.{depth_of}
 use Rattle.mw_board.specs.Elements.{element_count}
@@ -12,9 +12,9 @@ use Rattle.mw_cycle.proofs.Values.{by_number}
 use Rattle.mw_term.specs.Table.{Table}
 use Rattle.mw_term.specs.declared.word.Word.{Word}
 use Rattle.mw_symmem.specs.Memory.{Memory, IsOfWidth}
-use Rattle.mw_symboard.specs.Kinds.{AreInputs}
+use Rattle.mw_symboard.specs.Kinds.{HaveWidths}
 use Rattle.mw_symboard.specs.Turns.{AreNoLater, IsSymbolic, Symbolic}
-use Rattle.mw_symboard.specs.Parts.{AreElements, AreParts}
+use Rattle.mw_symboard.specs.Parts.{AreElements, AreParts, HasElements}
 use Rattle.mw_cycle.specs.BoardTerms.{Parts, term_of_part}
 
 -- the number of an element
@@ -82,8 +82,7 @@ number_below board (StackWord n) is = let count = count_of board in omega (arith
 
 -- parts that are some elements' terms, by their numbers
 pub parts_of_elements : (board : BoardParts) (t : Table) (es : List ℕ) (p : Parts) → AreElements board t es
-    → ((n : ℕ) → n < element_count board → term_of_part p (element_of board n) ≡ slice_index es n)
-    → length p.regs ≡ 16 → length p.flips ≡ length board.flipflop → length p.stack ≡ depth_of board → AreParts board t p
+    → HasElements board es p → length p.regs ≡ 16 → length p.flips ≡ length board.flipflop → length p.stack ≡ depth_of board → AreParts board t p
 parts_of_elements board t es p are same regs flips stack = record {
   sixteen = regs;
   flips = flips;
@@ -98,16 +97,18 @@ parts_of_elements board t es p are same regs flips stack = record {
 
 -- a board at a place before its first cycle
 pub begun_symbolic : (board : BoardParts) (store : List ℕ) (t : Table) (words : List Word) (m : Memory) (o : Symbolic)
-    → o.place.at < 2 ^ 12 → o.place.sp ≤ depth_of board → AreParts board t o.place.parts → AreInputs board t words
-    → o.place.decided ≡ [] → o.events ≡ [] → o.reading ≡ None → o.leaving ≡ None → AreNoLater o.place.cycle words
-    → IsSymbolic board store t words m o
-begun_symbolic board store t words m o at sp parts inputs decided events read left none =
+    → o.place.at < 2 ^ 12 → o.place.sp ≤ depth_of board → AreParts board t o.place.parts
+    → ((term : ℕ) → o.place.line ≡ Some term → IsOfWidth t 1 term) → HaveWidths o.place.side board t words
+    → o.place.decided ≡ [] → o.events ≡ [] → o.reading ≡ None → o.leaving ≡ None
+    → AreNoLater o.place.side o.place.cycle words → IsSymbolic board store t words m o
+begun_symbolic board store t words m o at sp parts line widths decided events read left none =
     let count : length o.place.decided ≡ 0 = ap length decided in
     record {
       at = at;
       sp = sp;
       parts = parts;
-      inputs = inputs;
+      line = line;
+      widths = widths;
       events = rw events (λ k e is. absurd cc);
       reading = rw read (decided, none);
       leaving = rw (read, left) (omega (arith, count));

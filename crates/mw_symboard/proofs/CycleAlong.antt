@@ -34,7 +34,8 @@ use Rattle.mw_cycle.specs.LeavingWords.{Leaving, counter_words, direct_words, en
 use Rattle.mw_cycle.specs.Microword.{points_of}
 use Rattle.mw_cycle.specs.ReadingWords.{Bits, BitsMade, MadeBit, Reading, Sources, addends_words, all_read_words}
 use Rattle.mw_cycle.specs.ReadingWords.{bit_words, bits_in_order, carry_op, condition_words, early_words, f_words}
-use Rattle.mw_cycle.specs.ReadingWords.{first_words, is_read, made_or, made_term, masked_words, no_bits, operands_words}
+use Rattle.mw_cycle.specs.ReadingWords.{first_words, is_read, line_words, made_or}
+use Rattle.mw_cycle.specs.ReadingWords.{made_term, masked_words, no_bits, operands_words}
 use Rattle.mw_cycle.specs.ReadingWords.{overflow_op, r_words, read_words, reading_words, s_words, second_words}
 use Rattle.mw_cycle.specs.ReadingWords.{source_words, sources_words, turned_words}
 use Rattle.mw_seq.specs.declared.instruction.AddressFrom.{AddressFrom}
@@ -45,7 +46,8 @@ use Rattle.mw_seq.specs.declared.instruction.Effect.{Effect}
 use Rattle.mw_seq.specs.declared.instruction.Instruction.{Instruction}
 use Rattle.mw_seq.specs.declared.instruction.Instruction.TheVariants.{Jmap, Cjv}
 use Rattle.mw_seq.specs.Instruction.{effect_of, instruction_of}
-use Rattle.mw_term.specs.declared.kinds.WordKind.TheVariants.{Line, Noise}
+use Rattle.mw_term.specs.declared.side.Side.{Side}
+use Rattle.mw_cycle.specs.SteadySeries.{Line, Noise, kind_of}
 use Rattle.mw_term.specs.declared.op.Op.{Op}
 use Rattle.mw_term.specs.declared.op.Op.TheVariants.{Not, And, Or, Xor, Sum, Cout, Ovf, Eq, Part, Join, Tab}
 use Rattle.mw_term.specs.MemoryRead.{Held}
@@ -252,12 +254,17 @@ numbered_sources board m p sp line noise d l has =
     (numbered_r board.width (source_of m.instruction) a d carry.list
     (numbered_early board p sp line m.carry_in no_bits l has)))))
 
+numbered_line : (side : Side) (cycle : ℕ) (line : Option ℕ) (l : WordList) → IsNumbered l
+    → IsNumbered (line_words side cycle line l).list
+numbered_line side cycle (Some term) l has = has
+numbered_line side cycle None l has = numbered_variable (kind_of side Line cycle) 1 l has
+
 numbered_reading : (board : BoardParts) (m : Microword) (s : Standing) (l : WordList) → IsNumbered l
     → IsNumbered (reading_words board m s l).list
 unfolding reading_words
 numbered_reading board m s l has =
-    let line = with_variable (Line s.cycle) 1 l in
-    let noise = with_variable (Noise s.cycle) 14 line.list in
+    let line = line_words s.side s.cycle s.line l in
+    let noise = with_variable (kind_of s.side Noise s.cycle) 14 line.list in
     let source = source_words board m.word s.parts s.writes s.taken m.d.from noise.list in
     let d = masked_words board.width m.d.mask source.term source.list in
     let made = sources_words board m s.parts s.sp line.term noise.term d.term d.list in
@@ -270,7 +277,8 @@ numbered_reading board m s l has =
     (numbered_sources board m s.parts s.sp line.term noise.term d.term d.list
     (numbered_masked board.width m.d.mask source.term source.list
     (numbered_source board m.word s.parts s.writes s.taken m.d.from noise.list
-    (numbered_variable (Noise s.cycle) 14 line.list (numbered_variable (Line s.cycle) 1 l has)))))))
+    (numbered_variable (kind_of s.side Noise s.cycle) 14 line.list
+    (numbered_line s.side s.cycle s.line l has)))))))
 
 -- ---- numbers of the end
 

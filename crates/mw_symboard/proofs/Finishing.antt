@@ -18,25 +18,26 @@ use Rattle.mw_term.specs.declared.decided.DecidedKind.{DecidedKind}
 use Rattle.mw_term.specs.Assigned.{Given}
 use Rattle.mw_term.specs.MemoryRead.{Held, held}
 use Rattle.mw_term.specs.Table.{Table}
+use Rattle.mw_term.specs.declared.side.Side.{Side}
 use Rattle.mw_term.specs.declared.side.Side.TheVariants as side
 use Rattle.mw_term.specs.declared.event.SymEvent.{SymEvent}
 use Rattle.mw_term.specs.declared.event.SymEvent.TheVariants.{Out, Taken}
 use Rattle.mw_symmem.specs.declared.turn.Turn.{Turn}
 use Rattle.mw_symmem.specs.declared.turn.Turn.TheVariants.{Ask}
 use Rattle.mw_term.specs.declared.word.Word.{Word}
-use Rattle.mw_symmem.specs.Memory.{Memory, memory_of, IsOfWidth}
+use Rattle.mw_symmem.specs.Memory.{Memory, memory_of, IsOfWidth, writes_of}
 use Rattle.mw_symmem.specs.Workspace.{GoesOn, IsWorkspace, KeepsWrites, ReadsMore}
 use Rattle.mw_symmem.proofs.Later.{goes_by_growth, goes_then, reads_itself, reads_with_write, workspace_with_write}
 use Rattle.mw_symboard.specs.declared.reading.Reading.{Reading}
 use Rattle.mw_symboard.specs.declared.leaving.Leaving.{Leaving}
 use Rattle.mw_symboard.specs.Cycle.{IsEdge, IsReading, bits_before}
 use Rattle.mw_symboard.specs.Growth.{Grew}
-use Rattle.mw_symboard.specs.Kinds.{AreInputs}
+use Rattle.mw_symboard.specs.Kinds.{HaveWidths}
 use Rattle.mw_symboard.specs.Parts.{AreParts}
 use Rattle.mw_symboard.specs.Seen.{Progress, Scene, IsSeen, microword_of}
 use Rattle.mw_symboard.specs.Shown.{shown, taken_after}
 use Rattle.mw_symboard.specs.Turns.{Symbolic, AreEvents, AreNoLater, Asks, HasRead, IsDone, IsSymbolic, IsTurn, Leaves}
-use Rattle.mw_symboard.specs.Turns.{clock_of, cycle_left, event_of, event_term, shown_by, with_reads, written_if}
+use Rattle.mw_symboard.specs.Turns.{clock_of, cycle_left, event_of, event_term, other_side, shown_by, with_reads, written_if}
 use Rattle.mw_symboard.proofs.SaysDone.{at_edge, says_done}
 use Rattle.mw_symboard.proofs.SaysState.{IsAtEdge}
 use Rattle.mw_symboard.proofs.Standing.{parts_stay}
@@ -45,6 +46,7 @@ use Rattle.mw_symboard.proofs.Turning.{leaving_known, read_known}
 
 -- what showing an event changes, and what it leaves
 pub record ShownKeeps (from : DFrom) (out : Bool) (source y : ℕ) (o : Symbolic) : Type 0 where
+  pub side : (shown_by from out source y o).place.side ≡ o.place.side
   pub at : (shown_by from out source y o).place.at ≡ o.place.at
   pub sp : (shown_by from out source y o).place.sp ≡ o.place.sp
   pub parts : (shown_by from out source y o).place.parts ≡ o.place.parts
@@ -57,6 +59,7 @@ pub record ShownKeeps (from : DFrom) (out : Bool) (source y : ℕ) (o : Symbolic
 
 pub shown_keeps : (from : DFrom) (out : Bool) (source y : ℕ) (o : Symbolic) → ShownKeeps from out source y o
 shown_keeps sources.Input out source y o = record {
+  side = refl;
   at = refl;
   sp = refl;
   parts = refl;
@@ -68,6 +71,7 @@ shown_keeps sources.Input out source y o = record {
   asked = refl;
 }
 shown_keeps from true source y o = record {
+  side = refl;
   at = refl;
   sp = refl;
   parts = refl;
@@ -79,6 +83,7 @@ shown_keeps from true source y o = record {
   asked = refl;
 }
 shown_keeps from false source y o = record {
+  side = refl;
   at = refl;
   sp = refl;
   parts = refl;
@@ -96,31 +101,38 @@ taken_few from n = omega arith
 
 -- ---- the memory
 
--- the writes of the board's side
-pub written_board : (write : Bool) (m : Memory) (address value : ℕ)
-    → (written_if write m address value).board ≡ (if write then m.board ++ held address value ∷ [] else m.board)
-written_board true m address value = refl
-written_board false m address value = refl
+-- the writes of a side
+pub written_own : (write : Bool) (m : Memory) (own : Side) (address value : ℕ)
+    → writes_of (written_if write m own address value) own
+    ≡ (if write then writes_of m own ++ held address value ∷ [] else writes_of m own)
+written_own true m side.Board address value = refl
+written_own true m side.Machine address value = refl
+written_own false m own address value = refl
 
-pub written_machine : (write : Bool) (m : Memory) (address value : ℕ)
-    → (written_if write m address value).machine ≡ m.machine
-written_machine true m address value = refl
-written_machine false m address value = refl
+-- and of the other
+pub written_other : (write : Bool) (m : Memory) (own : Side) (address value : ℕ)
+    → writes_of (written_if write m own address value) (other_side own) ≡ writes_of m (other_side own)
+written_other true m side.Board address value = refl
+written_other true m side.Machine address value = refl
+written_other false m own address value = refl
 
-pub written_reads : (write : Bool) (m : Memory) (address value : ℕ) → (written_if write m address value).reads ≡ m.reads
-written_reads true m address value = refl
-written_reads false m address value = refl
+pub written_reads : (write : Bool) (m : Memory) (own : Side) (address value : ℕ)
+    → (written_if write m own address value).reads ≡ m.reads
+written_reads true m side.Board address value = refl
+written_reads true m side.Machine address value = refl
+written_reads false m own address value = refl
 
-pub written_more : (write : Bool) (m : Memory) (address value : ℕ) → ReadsMore m (written_if write m address value)
-written_more true m address value = reads_with_write m side.Board (held address value)
-written_more false m address value = reads_itself m
+pub written_more : (write : Bool) (m : Memory) (own : Side) (address value : ℕ)
+    → ReadsMore m (written_if write m own address value)
+written_more true m own address value = reads_with_write m own (held address value)
+written_more false m own address value = reads_itself m
 
-pub written_workspace : (write : Bool) (t : Table) (words : List Word) (m : Memory) (address value : ℕ)
+pub written_workspace : (write : Bool) (t : Table) (words : List Word) (m : Memory) (own : Side) (address value : ℕ)
     → IsOfWidth t m.address address → IsOfWidth t m.word value → IsWorkspace t words m
-    → IsWorkspace t words (written_if write m address value)
-written_workspace true t words m address value narrow wide workspace =
-    workspace_with_write t words m side.Board (held address value) workspace (record { address = narrow; word = wide })
-written_workspace false t words m address value narrow wide workspace = workspace
+    → IsWorkspace t words (written_if write m own address value)
+written_workspace true t words m own address value narrow wide workspace =
+    workspace_with_write t words m own (held address value) workspace (record { address = narrow; word = wide })
+written_workspace false t words m own address value narrow wide workspace = workspace
 
 -- ---- the end of a cycle
 
@@ -145,7 +157,7 @@ both_wide board t (x ∷ first) second one two (suc k) e is =
 
 none_read : (board : BoardParts) (store : List ℕ) (t : Table) (words : List Word) (m : Memory) (p : Progress)
     (read : Option Reading)
-    → read ≡ None → p.decided ≡ [] → AreNoLater p.cycle words → HasRead board store t words m p read
+    → read ≡ None → p.decided ≡ [] → AreNoLater p.side p.cycle words → HasRead board store t words m p read
 none_read board store t words m p read is decided none =
     subst (λ (x : Option Reading). HasRead board store t words m p x) (sym is) (decided, none)
 
@@ -159,23 +171,26 @@ none_leaves board store t p read leaving is_read is_left decided =
 -- it is symbolic still
 pub ended_symbolic : (board : BoardParts) (store : List ℕ) (t : Table) (words : List Word) (m : Memory) (from : DFrom)
     (out : Bool) (source y : ℕ) (e : Symbolic) → e.place.at < 2 ^ 12 → e.place.sp ≤ depth_of board
-    → AreParts board t e.place.parts → AreInputs board t words → AreEvents board t e.events
-    → IsOfWidth t board.width source → IsOfWidth t board.width y → AreNoLater (e.place.cycle + 1) words
+    → AreParts board t e.place.parts → HaveWidths e.place.side board t words → AreEvents board t e.events
+    → IsOfWidth t board.width source → IsOfWidth t board.width y
+    → AreNoLater e.place.side (e.place.cycle + 1) words
     → e.reading ≡ None → e.leaving ≡ None
     → IsSymbolic board store t words m (cycle_left (shown_by from out source y e))
-ended_symbolic board store t words m from out source y e at sp parts inputs events source_wide y_wide none read left =
+ended_symbolic board store t words m from out source y e at sp parts widths events source_wide y_wide none read left =
     let keeps = shown_keeps from out source y e in
     record {
       at = subst (λ (n : ℕ). n < 2 ^ 12) (sym keeps.at) at;
       sp = subst (λ (n : ℕ). n ≤ depth_of board) (sym keeps.sp) sp;
       parts = rw keeps.parts parts;
-      inputs = inputs;
+      line = λ term own. absurd cc;
+      widths = subst (λ (s : Side). HaveWidths s board t words) (sym keeps.side) widths;
       events = rw keeps.events
           (both_wide board t e.events (option_to_list (shown from out source y)) events
           (λ k f is. shown_wide board t from out source y k f source_wide y_wide is));
       reading = none_read board store t words m (cycle_left (shown_by from out source y e)).place
           (shown_by from out source y e).reading (keeps.reading ∙ read) refl
-          (subst (λ (n : ℕ). AreNoLater (n + 1) words) (sym keeps.cycle) none);
+          (subst (λ (s : Side). AreNoLater s ((shown_by from out source y e).place.cycle + 1) words) (sym keeps.side)
+          (subst (λ (n : ℕ). AreNoLater e.place.side (n + 1) words) (sym keeps.cycle) none));
       leaving = none_leaves board store t (cycle_left (shown_by from out source y e)).place
           (shown_by from out source y e).reading (shown_by from out source y e).leaving (keeps.reading ∙ read)
           (keeps.leaving ∙ left) refl;
@@ -187,9 +202,9 @@ pub ended_done : (board : BoardParts) (store : List ℕ) (t : Table) (words : Li
     (old e : Symbolic) (made : Reading) (end : Leaving)
     → IsAtEdge board store t words m old.place e.place made end
     → e.place.cycle ≡ old.place.cycle → e.place.taken ≡ old.place.taken → e.events ≡ old.events
-    → mnew.board
-    ≡ (if (microword_of board store old.place).memory_write then m.board ++ held old.place.parts.mar made.y ∷ []
-    else m.board)
+    → writes_of mnew old.place.side
+    ≡ (if (microword_of board store old.place).memory_write
+    then writes_of m old.place.side ++ held old.place.parts.mar made.y ∷ [] else writes_of m old.place.side)
     → (given : Given) (x : Scene) → IsSeen board store t words m old.place given x
     → IsDone board store t words m mnew old (cycle_left (shown_by (microword_of board store old.place).d.from
     (microword_of board store old.place).out made.source made.y e)) given x
@@ -198,7 +213,7 @@ ended_done board store t words m mnew old e made end is cycle taken events wrote
     let out = (microword_of board store old.place).out in
     let keeps = shown_keeps from out made.source made.y e in
     says_done board store t words m mnew old
-    (cycle_left (shown_by from out made.source made.y e)) e.place made end is keeps.at
+    (cycle_left (shown_by from out made.source made.y e)) e.place made end is keeps.side keeps.at
     keeps.sp keeps.parts (ap (λ (n : ℕ). n + 1) (keeps.cycle ∙ cycle)) (keeps.taken ∙ ap (taken_after from) taken)
     (keeps.events ∙ ap (λ (es : List SymEvent). es ++ option_to_list (shown from out made.source made.y)) events)
     wrote given x seen

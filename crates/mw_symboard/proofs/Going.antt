@@ -24,7 +24,9 @@ use Rattle.mw_term.specs.declared.decided.DecidedKind.TheVariants.{Pass}
 use Rattle.mw_term.specs.declared.op.Op.TheVariants.{Part}
 use Rattle.mw_term.specs.MemoryRead.{Held}
 use Rattle.mw_term.specs.WordList.{WordList, ended, with_word}
-use Rattle.mw_symmem.specs.Memory.{Memory}
+use Rattle.mw_term.specs.declared.side.Side.{Side}
+use Rattle.mw_term.specs.declared.side.Side.TheVariants.{Board, Machine}
+use Rattle.mw_symmem.specs.Memory.{Memory, writes_of}
 use Rattle.mw_term.specs.Table.{Table}
 use Rattle.mw_symmem.specs.declared.turn.Turn.{Turn}
 use Rattle.mw_symmem.specs.declared.turn.Turn.TheVariants.{Ask, Finished}
@@ -234,20 +236,22 @@ shown_is (sources.Field n) false source y o = nothing_shown o
 shown_is (sources.Flip n) true source y o = refl
 shown_is (sources.Flip n) false source y o = nothing_shown o
 
--- the writes of the board's side
-pub writes_after : (write : Bool) (m : Memory) (address value : ℕ)
-    → (written_if write m address value).board ≡ with_write_if write address value m.board
-writes_after true m address value = refl
-writes_after false m address value = refl
+-- the writes of a side
+pub writes_after : (write : Bool) (m : Memory) (own : Side) (address value : ℕ)
+    → writes_of (written_if write m own address value) own ≡ with_write_if write address value (writes_of m own)
+writes_after true m Board address value = refl
+writes_after true m Machine address value = refl
+writes_after false m own address value = refl
 
 -- where it is once its cycle is left
 pub left_cycle : (m : Microword) (source y : ℕ) (old e : Symbolic) (r : Reading) (writes after : List Held)
-    → e.place.cycle ≡ old.place.cycle → e.place.taken ≡ old.place.taken → e.events ≡ old.events → source ≡ r.source
+    → e.place.side ≡ old.place.side → e.place.cycle ≡ old.place.cycle → e.place.taken ≡ old.place.taken → e.events ≡ old.events → source ≡ r.source
     → y ≡ r.y → after ≡ with_write_if m.memory_write old.place.parts.mar r.y writes
     → standing_after m old.place e.place r writes old.events
     ≡ standing_in (cycle_left (with_shown m.d.from m.out source y e)) after
-left_cycle m source y old e r writes after cycle taken events is_source is_y wrote =
-    let whole : ℕ → ℕ → List SymEvent → ℕ → ℕ → List Held → Standing = λ c t es s v w. record {
+left_cycle m source y old e r writes after same cycle taken events is_source is_y wrote =
+    let whole : Side → ℕ → ℕ → List SymEvent → ℕ → ℕ → List Held → Standing = λ d c t es s v w. record {
+      side = d;
       at = e.place.at;
       sp = e.place.sp;
       parts = e.place.parts;
@@ -255,13 +259,15 @@ left_cycle m source y old e r writes after cycle taken events is_source is_y wro
       events = es ++ shown m.d.from m.out s v;
       cycle = c + 1;
       taken = taken_after m.d.from t;
+      line = None;
     } in
-    sym (ap (λ c. whole c e.place.taken e.events source y after) cycle
-    ∙ ap (λ t. whole old.place.cycle t e.events source y after) taken
-    ∙ ap (λ es. whole old.place.cycle old.place.taken es source y after) events
-    ∙ ap (λ s. whole old.place.cycle old.place.taken old.events s y after) is_source
-    ∙ ap (λ v. whole old.place.cycle old.place.taken old.events r.source v after) is_y
-    ∙ ap (whole old.place.cycle old.place.taken old.events r.source r.y) wrote)
+    sym (ap (λ d. whole d e.place.cycle e.place.taken e.events source y after) same
+    ∙ ap (λ c. whole old.place.side c e.place.taken e.events source y after) cycle
+    ∙ ap (λ t. whole old.place.side old.place.cycle t e.events source y after) taken
+    ∙ ap (λ es. whole old.place.side old.place.cycle old.place.taken es source y after) events
+    ∙ ap (λ s. whole old.place.side old.place.cycle old.place.taken old.events s y after) is_source
+    ∙ ap (λ v. whole old.place.side old.place.cycle old.place.taken old.events r.source v after) is_y
+    ∙ ap (whole old.place.side old.place.cycle old.place.taken old.events r.source r.y) wrote)
 
 -- ---- what is there and what isn't
 
@@ -376,7 +382,7 @@ goes_on board store writes old mid new l0 l1 l2 first second = λ bits. (first b
 pub stops_later : (board : BoardParts) (store : List ℕ) (writes : List Held) (old mid new : Symbolic)
     (l0 l1 l2 : WordList) (mold mnew : Memory) (turn : Turn) (kind : DecidedKind) (term : ℕ)
     → turn ≡ Ask kind term → mid.place ≡ old.place
-    → mid.events ≡ old.events → mold.board ≡ writes → GoesAlong board store writes old mid l0 l1
+    → mid.events ≡ old.events → writes_of mold old.place.side ≡ writes → GoesAlong board store writes old mid l0 l1
     → StopsAt board store writes mid new l1 l2 kind term → ListsTurn board store mold mnew old new l0 l2 turn
 stops_later board store writes old mid new l0 l1 l2 mold mnew turn kind term is place events same goes stops =
     let standing = ap₂ (λ (p : Progress) (es : List SymEvent). standing_of p writes es) place events in

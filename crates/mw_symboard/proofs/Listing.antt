@@ -25,7 +25,8 @@ use Rattle.mw_cycle.specs.EdgeWords.{Loaded, Made, Stands, edge_made, edge_words
 use Rattle.mw_cycle.specs.EdgeWords.{parts_after, shown, sp_after, taken_after, with_flip, with_write_if}
 use Rattle.mw_cycle.specs.ReadingWords.{BitEnded, Bits, BitsMade, HasRead, MadeBit, Operands, Reading, Sources}
 use Rattle.mw_cycle.specs.ReadingWords.{SourcesMade, addends_words, all_read_words, bit_ended, bit_words, bits_in_order}
-use Rattle.mw_cycle.specs.ReadingWords.{condition_words, early_once, early_words, f_words, kept_or, late_once, made_or}
+use Rattle.mw_cycle.specs.ReadingWords.{condition_words, early_once, early_words, f_words, kept_or, late_once, line_words}
+use Rattle.mw_cycle.specs.ReadingWords.{made_or}
 use Rattle.mw_cycle.specs.ReadingWords.{made_term, masked_words, no_bits, operands_words, r_words, read_words}
 use Rattle.mw_cycle.specs.ReadingWords.{reading_words, source_words, sources_words, turned_words, with_made, y_term}
 use Rattle.mw_board.specs.declared.bit.Bit.TheVariants as bits
@@ -35,7 +36,7 @@ use Rattle.mw_seq.specs.declared.instruction.Effect.{Effect}
 use Rattle.mw_seq.specs.declared.instruction.Instruction.{Instruction}
 use Rattle.mw_seq.specs.declared.instruction.Instruction.TheVariants.{Jmap, Cjv}
 use Rattle.mw_seq.specs.Instruction.{instruction_of}
-use Rattle.mw_term.specs.declared.kinds.WordKind.TheVariants.{Line, Noise}
+use Rattle.mw_cycle.specs.SteadySeries.{Noise, kind_of}
 use Rattle.mw_term.specs.declared.op.Op.TheVariants.{Sum}
 use Rattle.mw_term.specs.declared.event.SymEvent.{SymEvent}
 use Rattle.mw_term.specs.declared.word.Word.{Word}
@@ -319,8 +320,8 @@ none_made b early late =
 -- what a cycle reads, from the words of its parts
 pub reading_are : (board : BoardParts) (m : Microword) (s : Standing) (l0 l1 l2 l3 l4 l5 l6 : WordList)
     (line noise source d y condition : ℕ) (n : Sources) (b4 b5 b6 : Bits)
-    → (with_variable (Line s.cycle) 1 l0).term ≡ line
-    → with_variable (Noise s.cycle) 14 (with_variable (Line s.cycle) 1 l0).list ≡ ended noise l1
+    → (line_words s.side s.cycle s.line l0).term ≡ line
+    → with_variable (kind_of s.side Noise s.cycle) 14 (line_words s.side s.cycle s.line l0).list ≡ ended noise l1
     → ended source l2 ≡ source_words board m.word s.parts s.writes s.taken m.d.from l1
     → ended d l3 ≡ masked_words board.width m.d.mask source l2
     → sources_words board m s.parts s.sp line noise d l3 ≡ record { list = l4; sources = n; bits = b4 }
@@ -353,7 +354,8 @@ reading_are board m s l0 l1 l2 l3 l4 l5 l6 line noise source d y condition n b4 
     λ line noise x. by_d line noise x.term (masked_words board.width m.d.mask x.term x.list) in
     let by_noise : ℕ → Ended → HasRead = λ line x. by_source line x.term
     (source_words board m.word s.parts s.writes s.taken m.d.from x.list) in
-    ap (λ term. by_noise term (with_variable (Noise s.cycle) 14 (with_variable (Line s.cycle) 1 l0).list)) h0
+    ap (λ term. by_noise term
+    (with_variable (kind_of s.side Noise s.cycle) 14 (line_words s.side s.cycle s.line l0).list)) h0
     ∙ ap (by_noise line) h1 ∙ ap (by_source line noise) (sym h2) ∙ ap (by_d line noise source) (sym h3)
     ∙ ap (by_sources source) h4 ∙ ap (by_read source n) h5
     ∙ ap (whole source n (y_of n)) (sym h6)
@@ -387,6 +389,7 @@ pub edge_are : (board : BoardParts) (m : Microword) (s : Standing) (reading : Re
     ≡ record {
       list = l2;
       standing = record {
+        side = s.side;
         at = next;
         sp = sp_after effect.stack (depth_of board) s.sp;
         parts = parts_after board m s.parts s.sp made reading.y pc leaving.r effect.stack;
@@ -394,6 +397,7 @@ pub edge_are : (board : BoardParts) (m : Microword) (s : Standing) (reading : Re
         events = s.events ++ shown m.d.from m.out reading.source reading.y;
         cycle = s.cycle + 1;
         taken = taken_after m.d.from s.taken;
+        line = None;
       };
     }
 unfolding edge_words
@@ -401,6 +405,7 @@ edge_are board m s reading leaving effect next l0 l2 made pc is_made is_pc =
     let whole : Made → Ended → Stands = λ x e. record {
       list = e.list;
       standing = record {
+        side = s.side;
         at = next;
         sp = sp_after effect.stack (depth_of board) s.sp;
         parts = parts_after board m s.parts s.sp x reading.y e.term leaving.r effect.stack;
@@ -408,6 +413,7 @@ edge_are board m s reading leaving effect next l0 l2 made pc is_made is_pc =
         events = s.events ++ shown m.d.from m.out reading.source reading.y;
         cycle = s.cycle + 1;
         taken = taken_after m.d.from s.taken;
+        line = None;
       };
     } in
     ap (λ (x : Made). whole x (with_constant ((next + num m.ci) % 2 ^ 12) 12 x.list)) is_made
@@ -431,6 +437,7 @@ pub standing_is : (m : Microword) (old new : Progress) (reading : Reading) (writ
     (at sp : ℕ) (parts : Parts)
     → new.at ≡ at → new.sp ≡ sp → new.parts ≡ parts
     → record {
+      side = old.side;
       at = at;
       sp = sp;
       parts = parts;
@@ -438,9 +445,11 @@ pub standing_is : (m : Microword) (old new : Progress) (reading : Reading) (writ
       events = events ++ shown m.d.from m.out reading.source reading.y;
       cycle = old.cycle + 1;
       taken = taken_after m.d.from old.taken;
+      line = None;
     } ≡ standing_after m old new reading writes events
 standing_is m old new reading writes events at sp parts is_at is_sp are =
     let whole : ℕ → ℕ → Parts → Standing = λ a s p. record {
+      side = old.side;
       at = a;
       sp = s;
       parts = p;
@@ -448,6 +457,7 @@ standing_is m old new reading writes events at sp parts is_at is_sp are =
       events = events ++ shown m.d.from m.out reading.source reading.y;
       cycle = old.cycle + 1;
       taken = taken_after m.d.from old.taken;
+      line = None;
     } in
     sym (ap (λ a. whole a new.sp new.parts) is_at ∙ ap (λ s. whole at s new.parts) is_sp ∙ ap (whole at sp) are)
 

@@ -91,7 +91,7 @@ module _ {board : BoardParts} {store : List ℕ} {t : Table} {words : List Word}
   -- a source of D
   pub says_source : (word : ℕ) (from : DFrom) (term : ℕ) → IsTable t → valid.IsBoard board → AreParts board t p.parts
       → valid.IsFrom (length board.fields) (length board.flipflop) from
-      → IsFrom board word t words m p.parts p.taken from term → IsOfWidth t board.width term
+      → IsFrom board word t words m p.side p.parts p.taken from term → IsOfWidth t board.width term
       → Says board store t words m p board.width term (λ x. from_source board word from x.state x.outside)
   unfolding from_source
   says_source word sources.Zero term table good parts named is wide = says_con 0 board.width term table is
@@ -118,7 +118,7 @@ module _ {board : BoardParts} {store : List ℕ} {t : Table} {words : List Word}
   -- D
   pub says_d : (source term : ℕ) → IsTable t → valid.IsBoard board → AreParts board t p.parts
       → IsMicroword board (microword_of board store p)
-      → IsFrom board (microword_of board store p).word t words m p.parts p.taken
+      → IsFrom board (microword_of board store p).word t words m p.side p.parts p.taken
       (microword_of board store p).d.from source
       → IsOfWidth t board.width source → IsMasked t board.width (microword_of board store p).d.mask source term
       → Says board store t words m p board.width term (d_net board store p)

@@ -13,27 +13,29 @@ use Rattle.mw_term.specs.Table.{Table}
 use Rattle.mw_term.specs.Values.{term_value}
 use Rattle.mw_symmem.specs.declared.turn.Turn.{Turn}
 use Rattle.mw_symmem.specs.declared.turn.Turn.TheVariants.{Ask, Finished}
-use Rattle.mw_symmem.specs.Memory.{Memory}
+use Rattle.mw_term.specs.declared.side.Side.{Side}
+use Rattle.mw_symmem.specs.Memory.{IsOfWidth, Memory, writes_of}
 use Rattle.mw_symmem.specs.Workspace.{IsLater, IsWorkspace, ReadsMore}
 use Rattle.mw_symmem.proofs.Images.{value_within}
 use Rattle.mw_symmem.proofs.Later.{width_later}
 use Rattle.mw_symmem.proofs.Lists.{pushed}
-use Rattle.mw_symboard.specs.Laws.{BeginsWith, Course, bits_in, run_in}
+use Rattle.mw_symboard.specs.Laws.{Course, FitsSoFar, bits_in, run_in}
 use Rattle.mw_symboard.specs.Parts.{AreElements}
-use Rattle.mw_symboard.specs.Paths.{IsOneOf, Origin, PassedGoOn, PassedStay, PathsBegin, PathsGoOn, PathsStay}
+use Rattle.mw_symboard.specs.Paths.{AreOrigins, IsOneOf, Origin, PassedGoOn, PassedStay, PathsBegin, PathsGoOn, PathsStay}
 use Rattle.mw_symboard.specs.Paths.{PathsTakeBits, SplitsAreBy}
 use Rattle.mw_symboard.specs.Seen.{Progress}
 use Rattle.mw_symboard.specs.Turns.{Symbolic, IsTurn}
 use Rattle.mw_symboard.proofs.RunBits.{first_before}
+use Rattle.mw_symboard.proofs.Staying.{line_stays}
 use Rattle.mw_symboard.proofs.Runs.{bits_are_of_the_run, runs_begin, runs_fit_before, runs_stay, turns_are_of_the_run}
 
 pub paths_begin : PathsBegin
-paths_begin board store t words m b o path are new at sp none always = record {
-  elements = are;
+paths_begin board store t words m b o path are has new none always = record {
+  origin = are;
+  side = new.side_is;
+  line = λ term own. are.line term (sym new.line_is ∙ own);
   in_run = λ given x is holds.
-      runs_begin board store t m given x b.terms o new none
-      (subst (λ (n : ℕ). BeginsWith board t given b.terms n o.place.sp x) (sym at)
-      (subst (λ (n : ℕ). BeginsWith board t given b.terms b.at n x) (sym sp) is.begins));
+      runs_begin board store t m given x b.terms b.side b.at b.sp b.line o has new none is.begins;
   only = λ given x is n less first. always given;
 }
 
@@ -43,14 +45,24 @@ elements_later : (board : BoardParts) (told tnew : Table) (terms : List ℕ) →
 elements_later board told tnew terms later are n below =
     width_later told tnew (bits_of board (element_of board n)) _ later (are n below)
 
+origin_later : (board : BoardParts) (told tnew : Table) (b : Origin) → IsLater told tnew → AreOrigins board told b
+    → AreOrigins board tnew b
+origin_later board told tnew b later are = record {
+  elements = elements_later board told tnew b.terms later are.elements;
+  line = line_stays told tnew b.line later are.line;
+}
+
 -- a run that is one later was one before
 one_before : (board : BoardParts) (told tnew : Table) (wold wnew more : List Word) (mold mnew : Memory) (b : Origin)
     (given : Given) (x : Course) → IsWorkspace told wold mold → IsLater told tnew → wnew ≡ wold ++ more
     → ReadsMore mold mnew
-    → AreElements board told b.terms → IsOneOf board tnew wnew mnew b given x → IsOneOf board told wold mold b given x
+    → AreOrigins board told b → IsOneOf board tnew wnew mnew b given x → IsOneOf board told wold mold b given x
 one_before board told tnew wold wnew more mold mnew b given x workspace later words reads are is =
-    let before = runs_fit_before board told tnew wold wnew more mold mnew given x workspace later words reads in
-    record { fits = before.0 is.fits; begins = before.1 b.terms b.at b.sp are is.begins }
+    let before = runs_fit_before b.side board told tnew wold wnew more mold mnew given x workspace later words reads in
+    record {
+      fits = before.0 is.fits;
+      begins = before.1 b.terms b.at b.sp b.line are.elements are.line is.begins;
+    }
 
 -- a turn finishes a cycle, or none
 cycle_after : (board : BoardParts) (store : List ℕ) (t : Table) (words : List Word) (mold mnew : Memory)
@@ -60,19 +72,39 @@ cycle_after board store t words mold mnew old new (Ask kind term) n turn less =
     subst (λ (p : Progress). p.cycle < n) turn.0 less
 cycle_after board store t words mold mnew old new Finished n turn less = omega (arith, less, turn.2)
 
+-- it stays on its side
+side_after : (board : BoardParts) (store : List ℕ) (t : Table) (words : List Word) (mold mnew : Memory)
+    (old new : Symbolic) (turn : Turn) → IsTurn board store t words mold mnew old new turn
+    → new.place.side ≡ old.place.side
+side_after board store t words mold mnew old new (Ask kind term) turn = ap (λ (p : Progress). p.side) turn.0
+side_after board store t words mold mnew old new Finished turn = turn.4
+
+-- the line that was there before its cycle has one bit, while it is in that cycle
+line_after : (board : BoardParts) (store : List ℕ) (told t : Table) (words : List Word) (mold mnew : Memory)
+    (old new : Symbolic) (turn : Turn) → IsTurn board store t words mold mnew old new turn → IsLater told t
+    → ((term : ℕ) → old.place.line ≡ Some term → IsOfWidth told 1 term)
+    → (term : ℕ) → new.place.line ≡ Some term → IsOfWidth t 1 term
+line_after board store told t words mold mnew old new (Ask kind asked) turn later wide term is =
+    line_stays told t old.place.line later wide term (sym (ap (λ (p : Progress). p.line) turn.0) ∙ is)
+line_after board store told t words mold mnew old new Finished turn later wide term is =
+    let none = turn.5 in absurd cc
+
 pub paths_go_on : PathsGoOn
 paths_go_on board store told tnew wold wnew mold mnew old new turn b bits path workspace symbolic goes is_turn is =
     let before : (given : Given) (x : Course) → IsOneOf board tnew wnew mnew b given x
     → IsOneOf board told wold mold b given x =
     λ given x one. one_before board told tnew wold wnew goes.more mold mnew b given x workspace goes.later goes.words
     goes.reads
-    is.elements one in
+    is.origin one in
     let law = λ (given : Given) (x : Course) (one : IsOneOf board tnew wnew mnew b given x) (holds : path given ≡ true).
     turns_are_of_the_run board store told tnew wold wnew mold mnew old new turn given x bits workspace symbolic goes
     is_turn
-    one.fits (is.in_run given x (before given x one) holds) in (
+    (subst (λ (s : Side). FitsSoFar s board tnew wnew mnew given x) (sym is.side) one.fits)
+    (is.in_run given x (before given x one) holds) in (
       record {
-        elements = elements_later board told tnew b.terms goes.later is.elements;
+        origin = origin_later board told tnew b goes.later is.origin;
+        side = side_after board store tnew wnew mold mnew old new turn is_turn ∙ is.side;
+        line = line_after board store told tnew wnew mold mnew old new turn is_turn goes.later is.line;
         in_run = λ given x one holds. (law given x one holds).0;
         only = λ given x one n less first.
             is.only given x (before given x one) n
@@ -84,7 +116,9 @@ paths_go_on board store told tnew wold wnew mold mnew old new turn b bits path w
 
 pub paths_take_bits : PathsTakeBits
 paths_take_bits board store t words m b o bits kind term value path next is asks by = record {
-  elements = is.elements;
+  origin = is.origin;
+  side = is.side;
+  line = is.line;
   in_run = λ given x one holds.
       let so = by.so given holds in
       bits_are_of_the_run board store t m o kind value given x bits (is.in_run given x one so.0)
@@ -101,11 +135,15 @@ pub paths_stay : PathsStay
 paths_stay board store told tnew wold wnew more mold mnew b o bits path workspace later words reads writes parts es is =
     let before : (given : Given) (x : Course) → IsOneOf board tnew wnew mnew b given x
     → IsOneOf board told wold mold b given x =
-    λ given x one. one_before board told tnew wold wnew more mold mnew b given x workspace later words reads is.elements
+    λ given x one. one_before board told tnew wold wnew more mold mnew b given x workspace later words reads is.origin
     one in
-    let stays = runs_stay board store told tnew wold mold mnew o workspace later writes parts es in
+    let own : writes_of mnew o.place.side ≡ writes_of mold o.place.side =
+    subst (λ (s : Side). writes_of mnew s ≡ writes_of mold s) (sym is.side) writes in
+    let stays = runs_stay board store told tnew wold mold mnew o workspace later own parts es is.line in
     record {
-      elements = elements_later board told tnew b.terms later is.elements;
+      origin = origin_later board told tnew b later is.origin;
+      side = is.side;
+      line = line_stays told tnew o.place.line later is.line;
       in_run = λ given x one holds. stays.2 given x bits (is.in_run given x (before given x one) holds);
       only = λ given x one n less first. is.only given x (before given x one) n less first;
     }

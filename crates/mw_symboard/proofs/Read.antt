@@ -8,7 +8,10 @@ use Rattle.mw_board.specs.declared.parts.BoardParts.{BoardParts}
 use Rattle.mw_cycle.specs.declared.elements.Element.TheVariants.{Mar}
 use Rattle.mw_cycle.specs.declared.microword.Microword.{Microword}
 use Rattle.mw_term.specs.declared.kinds.WordKind.{WordKind}
-use Rattle.mw_term.specs.declared.kinds.WordKind.TheVariants.{Line, Noise}
+use Rattle.mw_term.specs.declared.side.Side.{Side}
+use Rattle.mw_cycle.specs.SteadySeries as lists
+use Rattle.mw_cycle.specs.SteadySeries.{Noise, kind_of}
+use Rattle.std.specs.Option.{option_or}
 use Rattle.mw_term.specs.Table.{Table, Extends, IsTable}
 use Rattle.mw_term.specs.Values.{Keeps}
 use Rattle.mw_term.specs.declared.word.Word.{Word}
@@ -27,9 +30,10 @@ use Rattle.mw_symboard.specs.Kinds.{IsCycleKind, IsSourceKind}
 use Rattle.mw_symboard.specs.Made.{IsFrom, IsMasked, IsR, IsS, IsAddendR, IsAddendS, IsF, IsEarlyBit, IsBitTerm}
 use Rattle.mw_symboard.specs.Parts.{AreParts}
 use Rattle.mw_cycle.specs.BoardTerms.{Parts}
-use Rattle.mw_symboard.specs.Seen.{Progress}
+use Rattle.mw_symboard.specs.Seen.{Progress, line_term}
 use Rattle.mw_symboard.proofs.Growing.{grew_then, wide_later}
 use Rattle.mw_symboard.proofs.Standing.{addend_r_stays, addend_s_stays, early_bit_stays, f_stays, found_stays}
+use Rattle.mw_symboard.proofs.Staying.{line_found}
 use Rattle.mw_symboard.proofs.Standing.{from_stays, masked_stays, parts_stay, r_stays, s_stays, sources_stay}
 use Rattle.mw_symboard.proofs.Variables.{grew_term}
 
@@ -114,13 +118,13 @@ pub grew_later : (told tnew : Table) (old new : List Word) → Grew told tnew ol
 grew_later told tnew old new grew table =
     record { extends = grew.1.extends; keeps = grew.1.keeps; table = grew.1.table table }
 
-pub grew_from : (board : BoardParts) (word : ℕ) (told tnew : Table) (old new : List Word) (m : Memory) (p : Parts)
-    (taken : ℕ) (m_from : Microword) (term : ℕ) → Grew told tnew old new → IsWorkspace told old m
-    → p.mar < length told.ops → term < length told.ops → IsFrom board word told old m p taken m_from.d.from term
-    → IsFrom board word tnew new m p taken m_from.d.from term
-grew_from board word told tnew old new m p taken m_from term grew workspace mar there is =
+pub grew_from : (board : BoardParts) (word : ℕ) (told tnew : Table) (old new : List Word) (m : Memory)
+    (side : Side) (p : Parts) (taken : ℕ) (m_from : Microword) (term : ℕ) → Grew told tnew old new → IsWorkspace told old m
+    → p.mar < length told.ops → term < length told.ops → IsFrom board word told old m side p taken m_from.d.from term
+    → IsFrom board word tnew new m side p taken m_from.d.from term
+grew_from board word told tnew old new m side p taken m_from term grew workspace mar there is =
     rw grew.1.words
-    (from_stays board word told tnew old _ m m p taken m_from.d.from term
+    (from_stays board word told tnew old _ m m side p taken m_from.d.from term
     (grew_later told tnew old new grew workspace.table) workspace.memory (reads_itself m)
     (writes_itself m) mar there is)
 
@@ -155,9 +159,15 @@ pub no_early_bits : (board : BoardParts) (t : Table) (p : Parts) (sp line : ℕ)
     → AreEarlyBits board t p sp line made
 no_early_bits board t p sp line made none = rw none (λ k m is. absurd cc)
 
+-- the line of a cycle where its variable is what it was
+line_grew : (old new : List Word) (p : Progress)
+    → term_of new (kind_of p.side lists.Line p.cycle) ≡ term_of old (kind_of p.side lists.Line p.cycle)
+    → line_term new p ≡ line_term old p
+line_grew old new p same = ap (option_or p.line) same
+
 module _ (board : BoardParts) (m : Microword) (p : Progress) (t0 t1 t2 t3 t4 t5 t6 : Table)
     (w0 w1 w2 w3 w4 w5 w6 : List Word) (m0 m2 : Memory)
-    (goes : GoesOn (IsCycleKind p.cycle p.taken) t0 t1 w0 w1 m0 m0)
+    (goes : GoesOn (IsCycleKind p.side p.cycle p.taken) t0 t1 w0 w1 m0 m0)
     (taken : GoesOn (IsSourceKind p.taken) t1 t2 w1 w2 m0 m2) (two : Grew t2 t3 w2 w3) (three : Grew t3 t4 w3 w4)
     (four : Grew t4 t5 w4 w5) (five : Grew t5 t6 w5 w6) where
   pub behind_four : Grew t4 t6 w4 w6
@@ -169,13 +179,13 @@ module _ (board : BoardParts) (m : Microword) (p : Progress) (t0 t1 t2 t3 t4 t5 
   pub behind_two : Grew t2 t6 w2 w6
   behind_two = grew_then t2 t3 t6 w2 w3 w6 two behind_three
 
-  wider : (kind : WordKind) → IsSourceKind p.taken kind → IsCycleKind p.cycle p.taken kind
+  wider : (kind : WordKind) → IsSourceKind p.taken kind → IsCycleKind p.side p.cycle p.taken kind
   wider kind is = inl is
 
   -- the run went on
-  pub goes_on : GoesOn (IsCycleKind p.cycle p.taken) t0 t6 w0 w6 m0 m2
+  pub goes_on : GoesOn (IsCycleKind p.side p.cycle p.taken) t0 t6 w0 w6 m0 m2
   goes_on =
-      let kinds = IsCycleKind p.cycle p.taken in
+      let kinds = IsCycleKind p.side p.cycle p.taken in
       let second = goes_as (IsSourceKind p.taken) kinds t1 t2 w1 w2 m0 m2 wider taken in
       let first = goes_then kinds t0 t1 t2 w0 w1 w2 m0 m0 m2 goes second in
       goes_then kinds t0 t2 t6 w0 w2 w6 m0 m2 m2 first
@@ -186,11 +196,16 @@ module _ (board : BoardParts) (m : Microword) (p : Progress) (t0 t1 t2 t3 t4 t5 
       grew_term t2 t6 w2 w6 kind behind_two ∙ ap (λ (ws : List Word). term_of ws kind) taken.words
       ∙ found_stays w1 taken.more kind term is
 
+  line_there : (term : ℕ) → line_term w1 p ≡ Some term → line_term w6 p ≡ Some term
+  line_there term is =
+      line_grew w2 w6 p (grew_term t2 t6 w2 w6 (kind_of p.side lists.Line p.cycle) behind_two)
+      ∙ ap (λ (ws : List Word). line_term ws p) taken.words ∙ line_found w1 taken.more p term is
+
   -- from line and noise, D, what F is made of, the bits, the condition and Y, in the order in which they are made
-  pub reading_is : (made : Reading) (d bit : ℕ) → term_of w1 (Line p.cycle) ≡ Some made.sources.line
-      → term_of w1 (Noise p.cycle) ≡ Some made.sources.noise
+  pub reading_is : (made : Reading) (d bit : ℕ) → line_term w1 p ≡ Some made.sources.line
+      → term_of w1 (kind_of p.side Noise p.cycle) ≡ Some made.sources.noise
       → AreParts board t2 p.parts
-      → IsFrom board m.word t2 w2 m2 p.parts p.taken m.d.from made.source → IsOfWidth t2 board.width made.source
+      → IsFrom board m.word t2 w2 m2 p.side p.parts p.taken m.d.from made.source → IsOfWidth t2 board.width made.source
       → IsMasked t3 board.width m.d.mask made.source d → IsOfWidth t3 board.width d
       → AreOperands board m t4 p.parts p.sp d made.sources
       → AreBits board t6 p.parts p.sp made.sources made.bits
@@ -207,9 +222,9 @@ module _ (board : BoardParts) (m : Microword) (p : Progress) (t0 t1 t2 t3 t4 t5 
         d = d;
         first = are.first;
         second = are.second;
-        line = variable_there (Line p.cycle) made.sources.line line;
-        noise = variable_there (Noise p.cycle) made.sources.noise noise;
-        source = grew_from board m.word t2 t6 w2 w6 m2 p.parts p.taken m made.source behind_two taken.workspace
+        line = line_there made.sources.line line;
+        noise = variable_there (kind_of p.side Noise p.cycle) made.sources.noise noise;
+        source = grew_from board m.word t2 t6 w2 w6 m2 p.side p.parts p.taken m made.source behind_two taken.workspace
             (parts.wide Mar tt).there source_wide.there source;
         masked = masked_stays t3 t6 board.width m.d.mask made.source d behind_three.1.extends masked;
         carry = are.carry;

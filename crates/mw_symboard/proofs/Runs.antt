@@ -1,8 +1,9 @@
 -- A board on terms is a run of the board.
 use Rattle.std.proofs.Common.{◌≡◌, ◌⊎◌, inl, inr, ℕ, suc, ◌+◌, ◌<◌, List, [], ◌∷◌, ◌++◌, length, map, slice_index}
 use Rattle.std.proofs.Common.{append-nil, append_assoc, refl, ap, ap₂, sym, subst, ◌∙◌}
-use Rattle.std.specs.Option.{option_to_list}
+use Rattle.std.specs.Option.{option_or, option_to_list}
 use Rattle.std.specs.Prelude.{◌==◌, Bool, true, false, if◌then◌else◌, Option, Some, None, slice_get}
+use Rattle.mw_base.specs.Words.{num}
 use Rattle.mw_base.specs.declared.event.Event.{Event}
 use Rattle.mw_base.specs.declared.event.Event.TheVariants as events
 use Rattle.mw_board.specs.declared.parts.BoardParts.{BoardParts}
@@ -13,7 +14,7 @@ use Rattle.mw_cycle.specs.Cycle.{nets_of}
 use Rattle.mw_cycle.specs.Decided.{decided}
 use Rattle.mw_cycle.specs.SteadyDecided.{bits_of_cycle}
 use Rattle.mw_cycle.specs.Elements.{element_of, value_of}
-use Rattle.mw_cycle.specs.SteadyEnvironment.{Environment, given_at}
+use Rattle.mw_cycle.specs.SteadyEnvironment.{Environment, at_start, given_at}
 use Rattle.mw_cycle.specs.SteadyRun.{BoardRun, clock_after, longer_run}
 use Rattle.mw_cycle.specs.State.{BoardState}
 use Rattle.mw_cycle.proofs.Values.{is_element}
@@ -21,7 +22,9 @@ use Rattle.mw_term.specs.declared.event.SymEvent.{SymEvent}
 use Rattle.mw_term.specs.declared.event.SymEvent.TheVariants.{Out, Taken}
 use Rattle.mw_term.specs.declared.decided.DecidedKind.{DecidedKind}
 use Rattle.mw_term.specs.declared.kinds.WordKind.{WordKind}
-use Rattle.mw_term.specs.declared.kinds.WordKind.TheVariants.{Line, Noise, Input}
+use Rattle.mw_term.specs.declared.kinds.WordKind.TheVariants.{Input}
+use Rattle.mw_term.specs.declared.side.Side.{Side}
+use Rattle.mw_term.specs.declared.side.Side.TheVariants.{Board, Machine}
 use Rattle.mw_cycle.specs.SteadySeries as lists
 use Rattle.mw_cycle.specs.SteadySeries.{kind_of}
 use Rattle.mw_cycle.proofs.Lists.{bit_at}
@@ -36,13 +39,13 @@ use Rattle.mw_symmem.specs.Kinds.{kind_is}
 use Rattle.mw_symmem.specs.Words.{IsVariable}
 use Rattle.mw_symmem.proofs.Lists.{behind}
 use Rattle.std.proofs.lemmas.Option.{same_Some}
-use Rattle.mw_symmem.specs.Memory.{Memory, IsMemory, after, valued}
+use Rattle.mw_symmem.specs.Memory.{AreHeld, Memory, IsMemory, IsOfWidth, after, valued, writes_of}
 use Rattle.mw_symmem.specs.Workspace.{IsLater, ReadsMore}
 use Rattle.mw_symmem.proofs.Later.{image_before, images_fit_before, valued_stays}
 use Rattle.mw_symboard.specs.Laws.{BeginsWith, BitsAreFirst, BitsAreOfTheRun, Course, ElementsHaveTerms, FitsSoFar}
-use Rattle.mw_symboard.specs.Laws.{IsEnvironmentOf, IsInRun, IsNew, RunsBegin, RunsFitBefore, RunsStay}
+use Rattle.mw_symboard.specs.Laws.{IsBeginning, IsEnvironmentOf, IsInRun, RunsBegin, RunsFitBefore, RunsStay}
 use Rattle.mw_symboard.specs.Laws.{TurnsAreOfTheRun, bits_in, run_in}
-use Rattle.mw_symboard.specs.Parts.{AreParts}
+use Rattle.mw_symboard.specs.Parts.{AreParts, HasElements}
 use Rattle.mw_cycle.specs.BoardTerms.{term_of_part}
 use Rattle.mw_symboard.specs.Seen.{AreFirst, IsOutside, IsSeen, IsStateOf, Progress, Scene}
 use Rattle.mw_symboard.specs.Turns.{Symbolic, AreEvents, IsDone, clock_of, event_of, event_term, with_reads}
@@ -54,11 +57,22 @@ use Rattle.mw_symboard.proofs.Staying.{events_stay}
 
 -- ---- values stay
 
--- a state has the values of the parts still, while the board's side writes nothing
+-- the writes of a side have the memory's widths
+pub writes_held : (side : Side) (t : Table) (words : List Word) (m : Memory) → IsMemory t words m
+    → AreHeld t m.address m.word (writes_of m side)
+writes_held Board t words m memory = memory.board
+writes_held Machine t words m memory = memory.machine
+
+-- base reads write nothing
+pub reads_write_nothing : (side : Side) (m : Memory) (reads : List Held)
+    → writes_of (with_reads m reads) side ≡ writes_of m side
+reads_write_nothing Board m reads = refl
+reads_write_nothing Machine m reads = refl
+
+-- a state has the values of the parts still, while its side writes nothing
 state_stays : (board : BoardParts) (told tnew : Table) (words : List Word) (mold mnew : Memory) (given : Given)
-    (p : Progress) (image : List ℕ) (s : BoardState) → IsLater told tnew → IsMemory told words mold → mnew.board
-    ≡ mold.board
-    → AreParts board told p.parts → IsStateOf board told given mold p image s
+    (p : Progress) (image : List ℕ) (s : BoardState) → IsLater told tnew → IsMemory told words mold
+    → writes_of mnew p.side ≡ writes_of mold p.side → AreParts board told p.parts → IsStateOf board told given mold p image s
     → IsStateOf board tnew given mnew p image s
 state_stays board told tnew words mold mnew given p image s later memory writes parts is = record {
   fits = is.fits;
@@ -67,7 +81,8 @@ state_stays board told tnew words mold mnew given p image s later memory writes 
   elements = λ e own.
       is.elements e own ∙ sym (later.keeps.values given (term_of_part p.parts e) (parts.wide e own).there);
   memory = is.memory
-      ∙ ap (after image) (sym (valued_stays told tnew given mold.address mold.word mold.board later.keeps memory.board))
+      ∙ ap (after image) (sym (valued_stays told tnew given mold.address mold.word (writes_of mold p.side) later.keeps
+      (writes_held p.side told words mold memory)))
       ∙ ap (λ (hs : List Held). after image (map (valued tnew given) hs)) (sym writes);
 }
 
@@ -87,23 +102,25 @@ event_values board told tnew given (e ∷ es) keeps are =
 -- a board stays in its run
 in_run_stays : (board : BoardParts) (store : List ℕ) (told tnew : Table) (words : List Word) (mold mnew : Memory)
     (o : Symbolic) (given : Given) (x : Course) (bits : List Decided) → IsMemory told words mold → IsLater told tnew
-    → mnew.board ≡ mold.board → AreParts board told o.place.parts → AreEvents board told o.events
+    → writes_of mnew o.place.side ≡ writes_of mold o.place.side → AreParts board told o.place.parts
+    → AreEvents board told o.events → ((term : ℕ) → o.place.line ≡ Some term → IsOfWidth told 1 term)
     → IsInRun board store told mold given x o bits → IsInRun board store tnew mnew given x o bits
-in_run_stays board store told tnew words mold mnew o given x bits memory later writes parts es is = record {
+in_run_stays board store told tnew words mold mnew o given x bits memory later writes parts es line is = record {
   clock = is.clock;
   state = state_stays board told tnew words mold mnew given o.place x.image
       (run_in board store x o.place.cycle).state later memory writes parts is.state;
+  line = λ term own. later.keeps.values given term (line term own).there ∙ is.line term own;
   events = is.events ∙ sym (event_values board told tnew given o.events later.keeps es);
   first = is.first;
   bits = is.bits;
 }
 
 pub runs_stay : RunsStay
-runs_stay board store told tnew words mold mnew o workspace later writes parts es = (
+runs_stay board store told tnew words mold mnew o workspace later writes parts es line = (
   parts_stay board told tnew o.place.parts later.extends later.keeps parts,
   events_stay board told tnew o.events later es,
   λ given x bits is. in_run_stays board store told tnew words mold mnew o given x bits workspace.memory later writes
-      parts es is,
+      parts es line is,
 )
 
 -- ---- the start
@@ -112,32 +129,38 @@ clock_at : ℕ → ℕ → Clock
 clock_at cycle taken = record { cycle = cycle; taken = taken }
 
 -- a state from which a run begins has the values of a new board's parts
-new_state : (board : BoardParts) (t : Table) (m : Memory) (given : Given) (x : Course) (terms : List ℕ) (o : Symbolic)
-    → IsNew board terms o → m.board ≡ [] → BeginsWith board t given terms o.place.at o.place.sp x
+new_state : (board : BoardParts) (t : Table) (m : Memory) (given : Given) (x : Course) (terms : List ℕ) (side : Side)
+    (at sp : ℕ) (line : Option ℕ) (o : Symbolic) → HasElements board terms o.place.parts
+    → IsBeginning side at sp line o → writes_of m side ≡ [] → BeginsWith board t given terms at sp line x
     → IsStateOf board t given m o.place x.image x.start
-new_state board t m given x terms o new none begins = record {
+new_state board t m given x terms side at sp line o has new none begins = record {
   fits = begins.fits;
-  at = begins.address;
-  sp = begins.depth;
+  at = begins.address ∙ sym new.at;
+  sp = begins.depth ∙ sym new.sp_is;
   elements = λ e own.
       let n = number_of_element board e in
       let below = number_below board e own in
       subst (λ (f : Element). value_of x.start f ≡ term_value t given (term_of_part o.place.parts f))
       (has_number board e own)
-      (begins.elements n below ∙ ap (term_value t given) (sym (new.elements n below)));
-  memory = begins.memory ∙ ap (λ (hs : List Held). after x.image (map (valued t given) hs)) (sym none);
+      (begins.elements n below ∙ ap (term_value t given) (sym (has n below)));
+  memory = begins.memory ∙ ap (λ (hs : List Held). after x.image (map (valued t given) hs))
+      (sym (ap (writes_of m) new.side_is ∙ none));
 }
 
 pub runs_begin : RunsBegin
 unfolding clock_at
-runs_begin board store t m given x terms o new none begins =
+runs_begin board store t m given x terms side at sp line o has new none begins =
+    let clock : clock_of o.place ≡ at_start = ap₂ clock_at new.cycle new.taken in
     let run = ap (run_in board store x) new.cycle ∙ run_none board store x.env x.start in
     let own = bits_of_cycle board store x.env x.start o.place.cycle in
     record {
-      clock = ap (λ (r : BoardRun). r.clock) run ∙ ap₂ clock_at (sym new.cycle) (sym new.taken);
+      clock = ap (λ (r : BoardRun). r.clock) run ∙ sym clock;
       state = subst (λ (s : BoardState). IsStateOf board t given m o.place x.image s)
           (sym (ap (λ (r : BoardRun). r.state) run))
-          (new_state board t m given x terms o new none begins);
+          (new_state board t m given x terms side at sp line o has new none begins);
+      line = λ term own.
+          begins.first_line term (sym new.line_is ∙ own)
+          ∙ ap (λ (k : Clock). num (given_at x.env k).line) (sym clock);
       events = ap (λ (r : BoardRun). r.events) run ∙ ap (map (event_of t given)) (sym new.events);
       first = subst (λ (ds : List Decided). AreFirst ds own) (sym new.decided) (first_of [] own);
       bits = sym (ap₂ (λ (xs ys : List Decided). xs ++ ys)
@@ -172,18 +195,27 @@ variable_of (w ∷ words) kind term is = elim (first_or_rest w w.kind kind term 
   | inr h ↦ let behind = variable_of words kind term h in (suc behind.0, behind.1)
 ]
 
+-- what is so of each of two terms, of which the second is that where the first is missing
+pub of_either : (P : ℕ → Type 0) (first second : Option ℕ) (term : ℕ) → ((one : ℕ) → first ≡ Some one → P one)
+    → ((one : ℕ) → second ≡ Some one → P one) → option_or first second ≡ Some term → P term
+of_either P (Some one) second term so other is = subst P (same_Some one term is) (so one refl)
+of_either P None second term so other is = other term is
+
 -- what the outside has for the cycle at a place
 outside_of : (board : BoardParts) (t : Table) (words : List Word) (given : Given) (env : Environment) (p : Progress)
-    (k : Clock) → k ≡ clock_of p → IsEnvironmentOf board t words given env
+    (k : Clock) → k ≡ clock_of p → IsEnvironmentOf p.side board t words given env
+    → ((term : ℕ) → p.line ≡ Some term → term_value t given term ≡ num (given_at env (clock_of p)).line)
     → IsOutside board t given words p (given_at env k)
-outside_of board t words given env p k same is =
+outside_of board t words given env p k same is line =
     subst (λ (c : Clock). IsOutside board t given words p (given_at env c)) (sym same)
     (record {
-      line = λ term found.
-          let v = variable_of words (Line p.cycle) term found in
-          sym (is.values lists.Line p.cycle v.0 term v.1) ∙ bit_at env.line p.cycle;
+      line = λ term. of_either (λ a. term_value t given a ≡ num (given_at env (clock_of p)).line) p.line
+          (term_of words (kind_of p.side lists.Line p.cycle)) term line
+          (λ a found.
+          let v = variable_of words (kind_of p.side lists.Line p.cycle) a found in
+          sym (is.values lists.Line p.cycle v.0 a v.1) ∙ bit_at env.line p.cycle);
       noise = λ term found.
-          let v = variable_of words (Noise p.cycle) term found in
+          let v = variable_of words (kind_of p.side lists.Noise p.cycle) term found in
           sym (is.values lists.Noise p.cycle v.0 term v.1);
       input = λ term found.
           let v = variable_of words (Input p.taken) term found in
@@ -201,19 +233,21 @@ scene_of board store x n =
 -- the cycle that a board is in is seen in that of its run
 seen_in_run : (board : BoardParts) (store : List ℕ) (told tnew : Table) (wold wnew : List Word) (mold mnew : Memory)
     (o : Symbolic) (given : Given) (x : Course) (bits : List Decided) → IsMemory told wold mold → IsLater told tnew
-    → ReadsMore mold mnew → AreParts board told o.place.parts → FitsSoFar board tnew wnew mnew given x
+    → ReadsMore mold mnew → AreParts board told o.place.parts → FitsSoFar o.place.side board tnew wnew mnew given x
+    → ((term : ℕ) → o.place.line ≡ Some term → IsOfWidth told 1 term)
     → IsInRun board store told mold given x o bits
     → IsSeen board store tnew wnew (with_reads mold mnew.reads) o.place given (scene_of board store x o.place.cycle)
-seen_in_run board store told tnew wold wnew mold mnew o given x bits memory later reads parts fits is =
+seen_in_run board store told tnew wold wnew mold mnew o given x bits memory later reads parts fits line is =
     let before = image_before mold mnew x.image reads fits.image in
     let run = run_in board store x o.place.cycle in
     record {
       image = record { size = before.size; words = before.words };
       fit = fits.fit;
       state = state_stays board told tnew wold mold
-          (with_reads mold mnew.reads) given o.place x.image run.state later memory refl
-          parts is.state;
-      outside = outside_of board tnew wnew given x.env o.place run.clock is.clock fits.outside;
+          (with_reads mold mnew.reads) given o.place x.image run.state later memory
+          (reads_write_nothing o.place.side mold mnew.reads) parts is.state;
+      outside = outside_of board tnew wnew given x.env o.place run.clock is.clock fits.outside
+          (λ term own. later.keeps.values given term (line term own).there ∙ is.line term own);
       first = is.first;
     }
 
@@ -226,6 +260,9 @@ in_run_same board store t m old new given x bits place es is = record {
   clock = subst (λ (p : Progress). (run_in board store x p.cycle).clock ≡ clock_of p) (sym place) is.clock;
   state = subst (λ (p : Progress). IsStateOf board t given m p x.image (run_in board store x p.cycle).state)
       (sym place) is.state;
+  line = λ term own.
+      subst (λ (p : Progress). term_value t given term ≡ num (given_at x.env (clock_of p)).line) (sym place)
+      (is.line term (ap (λ (p : Progress). p.line) (sym place) ∙ own));
   events = subst (λ (p : Progress). (run_in board store x p.cycle).events ≡ map (event_of t given) old.events)
       (sym place) is.events
       ∙ ap (map (event_of t given)) (sym es);
@@ -238,11 +275,12 @@ in_run_same board store t m old new given x bits place es is = record {
 in_run_done : (board : BoardParts) (store : List ℕ) (told tnew : Table) (words : List Word) (mold mnew : Memory)
     (old new : Symbolic) (given : Given) (x : Course) (bits : List Decided) → IsLater told tnew
     → AreEvents board told old.events → new.place.decided ≡ [] → new.place.cycle ≡ old.place.cycle + 1
+    → new.place.line ≡ None
     → IsInRun board store told mold given x old bits
     → IsDone board store tnew words mold mnew old new given (scene_of board store x old.place.cycle)
     → IsInRun board store tnew mnew given x new bits × (bits_in board store x new.place.cycle ≡ bits)
 unfolding longer_run
-in_run_done board store told tnew words mold mnew old new given x bits later es none cycle is done =
+in_run_done board store told tnew words mold mnew old new given x bits later es none cycle no_line is done =
     let run = run_in board store x old.place.cycle in
     let event : Option Event = (nets_of board store run.state (given_at x.env run.clock)).event in
     let longer : run_in board store x new.place.cycle ≡ longer_run board store x.env run =
@@ -257,6 +295,7 @@ in_run_done board store told tnew words mold mnew old new given x bits later es 
         clock = ap (λ (r : BoardRun). r.clock) longer ∙ ap (clock_after event) is.clock ∙ sym done.clock;
         state = subst (λ (s : BoardState). IsStateOf board tnew given mnew new.place x.image s)
             (sym (ap (λ (r : BoardRun). r.state) longer)) done.state;
+        line = λ term own. absurd cc;
         events = ap (λ (r : BoardRun). r.events) longer
             ∙ ap (λ (xs : List Event). xs ++ option_to_list event)
             (is.events ∙ sym (event_values board told tnew given old.events later.keeps es))
@@ -284,10 +323,11 @@ turns_are_of_the_run board store told tnew wold wnew mold mnew old new
     (Ask kind term) given x bits workspace symbolic goes turn fits is =
     let seen = seen_in_run board store told tnew wold wnew mold mnew old given x bits workspace.memory goes.later
     goes.reads
-    symbolic.parts fits is in
-    let writes : mnew.board ≡ mold.board = ap (λ (m : Memory). m.board) turn.2 in
+    symbolic.parts fits symbolic.line is in
+    let writes : writes_of mnew old.place.side ≡ writes_of mold old.place.side =
+    ap (λ (m : Memory). writes_of m old.place.side) turn.2 ∙ reads_write_nothing old.place.side mold mnew.reads in
     let later = in_run_stays board store told tnew wold mold mnew old given x bits workspace.memory goes.later writes
-    symbolic.parts symbolic.events is in
+    symbolic.parts symbolic.events symbolic.line is in
     let now = in_run_same board store tnew mnew old new given x bits turn.0 turn.1 later in
     let scene = scene_of board store x old.place.cycle in
     let there : IsSeen board store tnew wnew mnew new.place given scene =
@@ -309,10 +349,10 @@ turns_are_of_the_run board store told tnew wold wnew mold mnew old new Finished 
     turn fits is =
     let seen = seen_in_run board store told tnew wold wnew mold mnew old given x bits workspace.memory goes.later
     goes.reads
-    symbolic.parts fits is in
+    symbolic.parts fits symbolic.line is in
     let done = in_run_done board store told tnew wnew mold mnew old new given x bits goes.later symbolic.events turn.1
-    turn.2 is
-    (turn.4 given (scene_of board store x old.place.cycle) seen) in (
+    turn.2 turn.5 is
+    (turn.6 given (scene_of board store x old.place.cycle) seen) in (
       done.0,
       λ kind term asks. absurd (finished_not kind term asks),
       λ ends. done.1,
@@ -332,6 +372,7 @@ bits_are_of_the_run board store t m o kind value given x bits is next =
         elements = is.state.elements;
         memory = is.state.memory;
       };
+      line = is.line;
       events = is.events;
       first = first_next o.place.decided (bits_of_cycle board store x.env x.start o.place.cycle) bit is.first
           (next_of_cycle board store x.env x.start o.place.cycle bits o.place.decided bit is.bits next);
@@ -346,7 +387,7 @@ bits_are_first board store t m o given x bits is n less =
 -- ---- earlier, and by number
 
 pub runs_fit_before : RunsFitBefore
-runs_fit_before board told tnew wold wnew more mold mnew given x workspace later words reads =
+runs_fit_before side board told tnew wold wnew more mold mnew given x workspace later words reads =
     let there : (kind : WordKind) (place term : ℕ) → IsVariable wold place term kind → IsVariable wnew place term kind =
     λ kind place term is.
     subst (λ (ws : List Word). IsVariable ws place term kind) (sym words)
@@ -360,17 +401,18 @@ runs_fit_before board told tnew wold wnew more mold mnew given x workspace later
         outside = record {
           within = fits.outside.within;
           values = λ series n place term is.
-              fits.outside.values series n place term (there (kind_of series n) place term is)
-              ∙ value (kind_of series n) place term is;
+              fits.outside.values series n place term (there (kind_of side series n) place term is)
+              ∙ value (kind_of side series n) place term is;
         };
       },
-      λ terms at sp are begins. record {
+      λ terms at sp line are lines begins. record {
         fits = begins.fits;
         address = begins.address;
         depth = begins.depth;
         elements = λ n below.
             begins.elements n below ∙ later.keeps.values given (slice_index terms n) (are n below).there;
         memory = begins.memory;
+        first_line = λ term own. sym (later.keeps.values given term (lines term own).there) ∙ begins.first_line term own;
       },
     )
 

@@ -21,7 +21,8 @@ use Rattle.mw_term.specs.Table.{Table, IsTable}
 use Rattle.mw_term.specs.Values.{term_value}
 use Rattle.mw_term.specs.declared.event.SymEvent.{SymEvent}
 use Rattle.mw_term.specs.declared.word.Word.{Word}
-use Rattle.mw_symmem.specs.Memory.{Memory}
+use Rattle.mw_term.specs.declared.side.Side.{Side}
+use Rattle.mw_symmem.specs.Memory.{Memory, held_by, writes_of}
 use Rattle.mw_symboard.specs.declared.leaving.Leaving.{Leaving}
 use Rattle.mw_symboard.specs.declared.reading.Reading.{Reading}
 use Rattle.mw_symboard.specs.Cycle.{IsEdge, IsLeaving, IsReading, bits_before}
@@ -76,14 +77,14 @@ clock_by from false y cycle taken x = refl
 
 -- a state of a place is one of each place with the same address, stack pointer and parts
 pub state_of_same : (board : BoardParts) (t : Table) (given : Given) (m : Memory) (p new : Progress) (image : List ℕ)
-    (s : BoardState) → new.at ≡ p.at → new.sp ≡ p.sp → new.parts ≡ p.parts → IsStateOf board t given m p image s
+    (s : BoardState) → new.side ≡ p.side → new.at ≡ p.at → new.sp ≡ p.sp → new.parts ≡ p.parts → IsStateOf board t given m p image s
     → IsStateOf board t given m new image s
-state_of_same board t given m p new image s at sp parts is = record {
+state_of_same board t given m p new image s same at sp parts is = record {
   fits = is.fits;
   at = is.at ∙ sym at;
   sp = is.sp ∙ sym sp;
   elements = λ e inside. is.elements e inside ∙ ap (λ (q : Parts). term_value t given (term_of_part q e)) (sym parts);
-  memory = is.memory;
+  memory = is.memory ∙ ap (λ (side : Side). held_by t given m side image) (sym same);
 }
 
 module _ {board : BoardParts} {store : List ℕ} {t : Table} {words : List Word} {m : Memory} {p : Progress} where
@@ -134,20 +135,20 @@ at_edge board store t words m p new made end table good parts micro map sp known
 pub says_done : (board : BoardParts) (store : List ℕ) (t : Table) (words : List Word) (m mnew : Memory)
     (old new : Symbolic) (edged : Progress) (made : Reading) (end : Leaving)
     → IsAtEdge board store t words m old.place edged made end
-    → new.place.at ≡ edged.at → new.place.sp ≡ edged.sp → new.place.parts ≡ edged.parts
+    → new.place.side ≡ edged.side → new.place.at ≡ edged.at → new.place.sp ≡ edged.sp → new.place.parts ≡ edged.parts
     → new.place.cycle ≡ old.place.cycle + 1
     → new.place.taken ≡ taken_after (microword_of board store old.place).d.from old.place.taken
     → new.events ≡ old.events ++ option_to_list (shown (microword_of board store old.place).d.from
     (microword_of board store old.place).out made.source made.y)
-    → mnew.board
-    ≡ (if (microword_of board store old.place).memory_write then m.board ++ held old.place.parts.mar made.y ∷ []
-    else m.board)
+    → writes_of mnew old.place.side
+    ≡ (if (microword_of board store old.place).memory_write
+    then writes_of m old.place.side ++ held old.place.parts.mar made.y ∷ [] else writes_of m old.place.side)
     → (given : Given) (x : Scene) → IsSeen board store t words m old.place given x
     → IsDone board store t words m mnew old new given x
-says_done board store t words m mnew old new edged made end is at sp parts cycle taken shows wrote given x seen =
+says_done board store t words m mnew old new edged made end is same at sp parts cycle taken shows wrote given x seen =
     record {
       bits = seen_all given x seen is.known;
-      state = state_of_same board t given mnew edged new.place x.image (after_net board store x) at sp parts
+      state = state_of_same board t given mnew edged new.place x.image (after_net board store x) same at sp parts
           (says_state mnew is wrote given x seen);
       events = ap (map (event_of t given)) shows
           ∙ events_both t given old.events (shown (microword_of board store old.place).d.from

@@ -32,9 +32,8 @@ use Rattle.mw_term.specs.Assigned.{Given}
 use Rattle.mw_term.specs.MemoryRead.{held}
 use Rattle.mw_term.specs.Table.{Table, IsTable}
 use Rattle.mw_term.specs.Values.{term_value}
-use Rattle.mw_term.specs.declared.side.Side.TheVariants as side
 use Rattle.mw_term.specs.declared.word.Word.{Word}
-use Rattle.mw_symmem.specs.Memory.{Memory, after, held_by, valued}
+use Rattle.mw_symmem.specs.Memory.{Memory, after, held_by, valued, writes_of as side_writes}
 use Rattle.mw_symboard.specs.declared.leaving.Leaving.{Leaving}
 use Rattle.mw_symboard.specs.declared.reading.Reading.{Reading}
 use Rattle.mw_symboard.specs.Cycle.{IsEdge, IsMar, bits_before, effect_by}
@@ -161,12 +160,13 @@ module _ {board : BoardParts} {store : List ℕ} {t : Table} {words : List Word}
   memory_after : (write : Bool) (y : ℕ) (net : Scene → ℕ) → Says board store t words m p board.width y net
       → (given : Given) (x : Scene) → IsSeen board store t words m p given x
       → (if write then slice_set x.state.memory x.state.mar (net x) else x.state.memory)
-      ≡ after x.image (map (valued t given) (if write then m.board ++ held p.parts.mar y ∷ [] else m.board))
+      ≡ after x.image (map (valued t given)
+      (if write then side_writes m p.side ++ held p.parts.mar y ∷ [] else side_writes m p.side))
   memory_after true y net says given x seen =
       ap (λ (words : List ℕ). slice_set words x.state.mar (net x)) seen.state.memory
-      ∙ ap₂ (λ (address word : ℕ). slice_set (after x.image (map (valued t given) m.board)) address word)
+      ∙ ap₂ (λ (address word : ℕ). slice_set (after x.image (map (valued t given) (side_writes m p.side))) address word)
       (seen.state.elements Mar tt) (sym (says.value given x seen))
-      ∙ sym (after_one_more t given x.image m.board (held p.parts.mar y))
+      ∙ sym (after_one_more t given x.image (side_writes m p.side) (held p.parts.mar y))
   memory_after false y net says given x seen = seen.state.memory
 
 -- what was made of a place, and the scene in which it is seen
@@ -309,15 +309,18 @@ module _ {board : BoardParts} {store : List ℕ} {t : Table} {words : List Word}
   edge_elements is given x seen (StackWord n) inside = edge_stack is given x seen n inside
 
   -- the memory, with the write if there is one
-  edge_memory : (after_write : Memory) → IsAtEdge board store t words m p new made end → after_write.board
-      ≡ (if (microword_of board store p).memory_write then m.board ++ held p.parts.mar made.y ∷ [] else m.board)
+  edge_memory : (after_write : Memory) → IsAtEdge board store t words m p new made end
+      → side_writes after_write p.side
+      ≡ (if (microword_of board store p).memory_write then side_writes m p.side ++ held p.parts.mar made.y ∷ []
+      else side_writes m p.side)
       → (given : Given) (x : Scene) → IsSeen board store t words m p given x
-      → (edge_net board store p x).memory ≡ held_by t given after_write side.Board x.image
+      → (edge_net board store p x).memory ≡ held_by t given after_write new.side x.image
   unfolding edge
   edge_memory after_write is wrote given x seen =
       memory_after (microword_of board store p).memory_write made.y (λ x. (answer_net board store p x).y)
       is.reading.y given x seen
-      ∙ ap (λ writes. after x.image (map (valued t given) writes)) (sym wrote)
+      ∙ ap (λ writes. after x.image (map (valued t given) writes))
+      (sym (ap (side_writes after_write) is.edge.side ∙ wrote))
 
   -- the sequencer stays one
   edge_sequencer : IsAtEdge board store t words m p new made end → (given : Given) (x : Scene)
@@ -364,8 +367,10 @@ module _ {board : BoardParts} {store : List ℕ} {t : Table} {words : List Word}
       (flips_below board (microword_of board store p) (answer_net board store p x) x.state x.outside board.flipflop 0)
 
   -- the state after the edge, by the microword of the place
-  edge_state : (after_write : Memory) → IsAtEdge board store t words m p new made end → after_write.board
-      ≡ (if (microword_of board store p).memory_write then m.board ++ held p.parts.mar made.y ∷ [] else m.board)
+  edge_state : (after_write : Memory) → IsAtEdge board store t words m p new made end
+      → side_writes after_write p.side
+      ≡ (if (microword_of board store p).memory_write then side_writes m p.side ++ held p.parts.mar made.y ∷ []
+      else side_writes m p.side)
       → (given : Given) (x : Scene) → IsSeen board store t words m p given x
       → IsStateOf board t given after_write new x.image (edge_net board store p x)
   unfolding edge
@@ -378,8 +383,10 @@ module _ {board : BoardParts} {store : List ℕ} {t : Table} {words : List Word}
   }
 
   -- the state after the cycle
-  pub says_state : (after_write : Memory) → IsAtEdge board store t words m p new made end → after_write.board
-      ≡ (if (microword_of board store p).memory_write then m.board ++ held p.parts.mar made.y ∷ [] else m.board)
+  pub says_state : (after_write : Memory) → IsAtEdge board store t words m p new made end
+      → side_writes after_write p.side
+      ≡ (if (microword_of board store p).memory_write then side_writes m p.side ++ held p.parts.mar made.y ∷ []
+      else side_writes m p.side)
       → (given : Given) (x : Scene) → IsSeen board store t words m p given x
       → IsStateOf board t given after_write new x.image (after_net board store x)
   says_state after_write is wrote given x seen =

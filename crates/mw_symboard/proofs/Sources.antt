@@ -6,6 +6,7 @@ use Rattle.mw_term.specs.MemoryRead.{held}
 use Rattle.mw_term.specs.Table.{Table, Extends, IsTable}
 use Rattle.mw_term.specs.Values.{Keeps}
 use Rattle.mw_term.specs.declared.side.Side.{Side}
+use Rattle.mw_term.specs.declared.side.Side.TheVariants.{Board}
 use Rattle.mw_term.specs.declared.word.Word.{Word}
 use Rattle.mw_term.specs.WordList.{variable}
 use Rattle.mw_cycle.specs.SteadySeries.{Inputs}
@@ -26,7 +27,7 @@ pub goes_by_input : (taken : ℕ) (told tnew : Table) (wold wnew : List Word) (m
     → GoesOn (IsSourceKind taken) told tnew wold wnew m m
 goes_by_input taken told tnew wold wnew m term words extends keeps table of workspace =
     goes_by_variable (IsSourceKind taken) told tnew wold wnew m term (Input taken) words extends keeps table of
-    (source_kind taken) (λ k is. no_base Inputs taken k is) workspace
+    (source_kind taken) (λ k is. no_base Board Inputs taken k is) workspace
 
 pub goes_by_base : (told tnew : Table) (wold wnew : List Word) (mold mnew : Memory) (side : Side)
     (address base term : ℕ) → AddsRead wold wnew mold

@@ -30,7 +30,7 @@ use Rattle.mw_term.specs.declared.kinds.WordKind.TheVariants.{Input}
 use Rattle.mw_term.specs.declared.op.Op.TheVariants.{Con, Not, And, Or, Xor, Sum, Eq, Part, Join, Tab}
 use Rattle.mw_term.specs.Table.{Table, Extends}
 use Rattle.mw_term.specs.Values.{Keeps}
-use Rattle.mw_term.specs.declared.side.Side.TheVariants as side
+use Rattle.mw_term.specs.declared.side.Side.{Side}
 use Rattle.mw_term.specs.declared.word.Word.{Word}
 use Rattle.mw_symmem.specs.Memory.{Memory, IsMemory}
 use Rattle.mw_term.specs.WordList.{is_of, term_of}
@@ -82,23 +82,29 @@ found_stays (w ∷ words) more kind term is =
     (found_stays words more kind term) is
 
 pub from_stays : (board : BoardParts) (word : ℕ) (told tnew : Table) (wold more : List Word) (mold mnew : Memory)
-    (p : Parts) (taken : ℕ) (from : DFrom) (term : ℕ) → IsLater told tnew → IsMemory told wold mold
+    (side : Side) (p : Parts) (taken : ℕ) (from : DFrom) (term : ℕ) → IsLater told tnew → IsMemory told wold mold
     → ReadsMore mold mnew → KeepsWrites mold mnew → p.mar < length told.ops → term < length told.ops
-    → IsFrom board word told wold mold p taken from term → IsFrom board word tnew (wold ++ more) mnew p taken from term
-from_stays board word told tnew wold more mold mnew p taken sources.Zero term later memory reads writes mar there is =
+    → IsFrom board word told wold mold side p taken from term
+    → IsFrom board word tnew (wold ++ more) mnew side p taken from term
+from_stays board word told tnew wold more mold mnew side p taken sources.Zero term later
+    memory reads writes mar there is =
     op_stays told tnew term (Con 0 board.width) later.extends is
-from_stays board word told tnew wold more mold mnew p taken sources.Memory term later memory reads writes mar there is =
-    reads_stay told tnew wold mold mnew side.Board p.mar term later memory reads writes mar there is
-from_stays board word told tnew wold more mold mnew p taken sources.Ir term later memory reads writes mar there is = is
-from_stays board word told tnew wold more mold mnew p taken sources.Mar term later memory reads writes mar there is =
+from_stays board word told tnew wold more mold mnew side p taken sources.Memory term later
+    memory reads writes mar there is =
+    reads_stay told tnew wold mold mnew side p.mar term later memory reads writes mar there is
+from_stays board word told tnew wold more mold mnew side p taken sources.Ir term later
+    memory reads writes mar there is = is
+from_stays board word told tnew wold more mold mnew side p taken sources.Mar term later
+    memory reads writes mar there is =
     widened_stays told tnew board.address board.width p.mar term later.extends is
-from_stays board word told tnew wold more mold mnew p taken sources.Input term later memory reads writes mar there is =
+from_stays board word told tnew wold more mold mnew side p taken sources.Input term later
+    memory reads writes mar there is =
     found_stays wold more (Input taken) term is
-from_stays board word told tnew wold more mold mnew p taken
+from_stays board word told tnew wold more mold mnew side p taken
     (sources.Field n) term later memory reads writes mar there is =
     op_stays told tnew term (Con (in_field (slice_get board.fields n) word % 2 ^ board.width) board.width)
     later.extends is
-from_stays board word told tnew wold more mold mnew p taken
+from_stays board word told tnew wold more mold mnew side p taken
     (sources.Flip n) term later memory reads writes mar there is =
     widened_stays told tnew 1 board.width (slice_index p.flips n) term later.extends is
 

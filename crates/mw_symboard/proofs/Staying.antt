@@ -1,5 +1,6 @@
 -- A symbolic board stays one as a table and its words grow by words that are no variables.
 use Rattle.std.proofs.Common.{◌≡◌, ℕ, ◌+◌, ◌<◌, List, [], ◌∷◌, ◌++◌, length, map, refl, ap, sym, subst, ◌∙◌}
+use Rattle.std.specs.Option.{option_or}
 use Rattle.std.specs.Prelude.{Bool, true, false, Option, Some, None, if◌then◌else◌}
 use Rattle.mw_board.specs.declared.parts.BoardParts.{BoardParts}
 use Rattle.mw_cycle.specs.declared.elements.Element.TheVariants.{Mar}
@@ -8,14 +9,15 @@ use Rattle.mw_alu.specs.Instruction.{source_of}
 use Rattle.mw_seq.specs.declared.instruction.CounterMove.{CounterMove}
 use Rattle.mw_seq.specs.declared.instruction.CounterMove.TheVariants as counters
 use Rattle.mw_seq.specs.Instruction.{instruction_of}
-use Rattle.mw_term.specs.declared.kinds.WordKind.TheVariants.{Input, Line, Noise}
-use Rattle.mw_cycle.specs.SteadySeries.{kind_of}
+use Rattle.mw_term.specs.declared.kinds.WordKind.{WordKind}
+use Rattle.mw_term.specs.declared.side.Side.{Side}
+use Rattle.mw_cycle.specs.SteadySeries.{Line, Noise, kind_of, width_of}
 use Rattle.mw_term.specs.declared.op.Op.TheVariants.{Not}
 use Rattle.mw_term.specs.Table.{Table, Extends}
 use Rattle.mw_term.specs.declared.event.SymEvent.{SymEvent}
 use Rattle.mw_term.specs.declared.word.Word.{Word}
-use Rattle.mw_symmem.specs.Memory.{Memory}
-use Rattle.mw_term.specs.WordList.{plain}
+use Rattle.mw_symmem.specs.Memory.{Memory, IsOfWidth}
+use Rattle.mw_term.specs.WordList.{plain, term_of}
 use Rattle.mw_symmem.specs.Workspace.{IsLater, IsWorkspace}
 use Rattle.mw_symmem.proofs.Growth.{width_stays, op_stays}
 use Rattle.mw_symmem.proofs.Later.{reads_itself, writes_itself, goes_by_growth}
@@ -24,25 +26,40 @@ use Rattle.mw_symboard.specs.declared.reading.Reading.{Reading}
 use Rattle.mw_symboard.specs.declared.leaving.Leaving.{Leaving}
 use Rattle.mw_symboard.specs.Cycle.{IsCounter, IsLeaving, IsReading, IsTurned, effect_by}
 use Rattle.mw_symboard.specs.Growth.{Grew}
-use Rattle.mw_symboard.specs.Kinds.{AreInputs}
-use Rattle.mw_symboard.specs.Seen.{Progress, microword_of}
+use Rattle.mw_symboard.specs.Kinds.{HaveWidths}
+use Rattle.mw_symboard.specs.Seen.{Progress, line_term, microword_of}
 use Rattle.mw_symboard.specs.Turns.{Symbolic, AreEvents, AreNoLater, HasRead, IsSymbolic, Leaves, event_term}
 use Rattle.mw_symboard.proofs.Standing.{addend_r_stays, addend_s_stays, bit_term_stays, bits_stay, direct_stays}
 use Rattle.mw_symboard.proofs.Standing.{early_bit_stays, f_stays, found_stays, from_stays, less_one_stays, masked_stays}
 use Rattle.mw_symboard.proofs.Standing.{next_stays, parts_stay, r_stays, s_stays, sources_stay}
 
 -- there are no later variables still
-pub none_stay : (cycle : ℕ) (words : List Word) (made : List ℕ) → AreNoLater cycle words
-    → AreNoLater cycle (words ++ map plain made)
-none_stay cycle words made none series by n later =
-    plain_behind words made (kind_of series n) ∙ none series by n later
+pub none_stay : (side : Side) (cycle : ℕ) (words : List Word) (made : List ℕ) → AreNoLater side cycle words
+    → AreNoLater side cycle (words ++ map plain made)
+none_stay side cycle words made none series by n later =
+    plain_behind words made (kind_of side series n) ∙ none series by n later
 
--- the variables of inputs keep their widths
-pub inputs_stay : (board : BoardParts) (told tnew : Table) (words : List Word) (made : List ℕ) → IsLater told tnew
-    → AreInputs board told words → AreInputs board tnew (words ++ map plain made)
-inputs_stay board told tnew words made later inputs n term is =
-    width_stays told tnew board.width term later.extends later.keeps
-    (inputs n term (sym (plain_behind words made (Input n)) ∙ is))
+-- variables keep their widths
+pub widths_stay : (side : Side) (board : BoardParts) (told tnew : Table) (words : List Word) (made : List ℕ)
+    → IsLater told tnew → HaveWidths side board told words → HaveWidths side board tnew (words ++ map plain made)
+widths_stay side board told tnew words made later widths series n term is =
+    width_stays told tnew (width_of board.width series) term later.extends later.keeps
+    (widths series n term (sym (plain_behind words made (kind_of side series n)) ∙ is))
+
+-- so does the line that was there before a cycle
+pub line_stays : (told tnew : Table) (line : Option ℕ) → IsLater told tnew
+    → ((term : ℕ) → line ≡ Some term → IsOfWidth told 1 term) → (term : ℕ) → line ≡ Some term → IsOfWidth tnew 1 term
+line_stays told tnew line later wide term is = width_stays told tnew 1 term later.extends later.keeps (wide term is)
+
+-- the line of a cycle is found still where there are words behind it
+found_either : (o : Option ℕ) (words more : List Word) (kind : WordKind) (term : ℕ)
+    → option_or o (term_of words kind) ≡ Some term → option_or o (term_of (words ++ more) kind) ≡ Some term
+found_either (Some one) words more kind term is = is
+found_either None words more kind term is = found_stays words more kind term is
+
+pub line_found : (words more : List Word) (p : Progress) (term : ℕ) → line_term words p ≡ Some term
+    → line_term (words ++ more) p ≡ Some term
+line_found words more p term is = found_either p.line words more (kind_of p.side Line p.cycle) term is
 
 -- so do events
 pub events_stay : (board : BoardParts) (told tnew : Table) (es : List SymEvent) → IsLater told tnew
@@ -67,10 +84,10 @@ reading_stays board m told tnew words made memory p r workspace later mar is =
       d = is.d;
       first = is.first;
       second = is.second;
-      line = found_stays words (map plain made) (Line p.cycle) r.sources.line is.line;
-      noise = found_stays words (map plain made) (Noise p.cycle) r.sources.noise is.noise;
-      source = from_stays board m.word told tnew words (map plain made) memory memory p.parts p.taken m.d.from r.source
-          later workspace.memory (reads_itself memory) (writes_itself memory) mar is.source_wide.there is.source;
+      line = line_found words (map plain made) p r.sources.line is.line;
+      noise = found_stays words (map plain made) (kind_of p.side Noise p.cycle) r.sources.noise is.noise;
+      source = from_stays board m.word told tnew words (map plain made) memory memory p.side p.parts p.taken m.d.from
+          r.source later workspace.memory (reads_itself memory) (writes_itself memory) mar is.source_wide.there is.source;
       masked = masked_stays told tnew board.width m.d.mask r.source is.d ex is.masked;
       carry = early_bit_stays board told tnew p.parts p.sp r.sources.line m.carry_in r.sources.carry ex is.carry;
       function = is.function;
@@ -122,10 +139,10 @@ has_read_stays : (board : BoardParts) (store : List ℕ) (told tnew : Table) (wo
     → IsWorkspace told words m → IsLater told tnew → p.parts.mar < length told.ops
     → HasRead board store told words m p read → HasRead board store tnew (words ++ map plain made) m p read
 has_read_stays board store told tnew words made m p None workspace later mar has =
-    (has.0, none_stay p.cycle words made has.1)
+    (has.0, none_stay p.side p.cycle words made has.1)
 has_read_stays board store told tnew words made m p (Some r) workspace later mar has = (
   reading_stays board (microword_of board store p) told tnew words made m p r workspace later mar has.0,
-  none_stay (p.cycle + 1) words made has.1,
+  none_stay p.side (p.cycle + 1) words made has.1,
 )
 
 leaves_stays : (board : BoardParts) (store : List ℕ) (told tnew : Table) (p : Progress) (read : Option Reading)
@@ -151,7 +168,8 @@ symbolic_stays board store told tnew old new m o workspace grew is =
       at = is.at;
       sp = is.sp;
       parts = parts_stay board told tnew o.place.parts later.extends later.keeps is.parts;
-      inputs = inputs_stay board told tnew old made later is.inputs;
+      line = line_stays told tnew o.place.line later is.line;
+      widths = widths_stay o.place.side board told tnew old made later is.widths;
       events = events_stay board told tnew o.events later is.events;
       reading = has_read_stays board store told tnew old made m o.place o.reading workspace later mar is.reading;
       leaving = leaves_stays board store told tnew o.place o.reading o.leaving later is.leaving;

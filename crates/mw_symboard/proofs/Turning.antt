@@ -21,7 +21,7 @@ use Rattle.mw_symmem.specs.Memory.{Memory, IsOfWidth}
 use Rattle.mw_symboard.specs.declared.reading.Reading.{Reading}
 use Rattle.mw_symboard.specs.declared.leaving.Leaving.{Leaving}
 use Rattle.mw_symboard.specs.Cycle.{IsReading, IsLeaving, IsCounter, bits_before, effect_by}
-use Rattle.mw_symboard.specs.Kinds.{AreInputs}
+use Rattle.mw_symboard.specs.Kinds.{HaveWidths}
 use Rattle.mw_symboard.specs.Made.{Is, IsNext}
 use Rattle.mw_symboard.specs.Parts.{AreParts}
 use Rattle.mw_symboard.specs.Seen.{Progress, microword_of}
@@ -121,7 +121,8 @@ decide_keeps board store t words m o asked kind term value asks symbolic =
       at = symbolic.at;
       sp = symbolic.sp;
       parts = symbolic.parts;
-      inputs = symbolic.inputs;
+      line = symbolic.line;
+      widths = symbolic.widths;
       events = symbolic.events;
       reading = read_so board store t words m o.place
           (decided kind value) o.reading asks.begun.0 asks.begun.1 symbolic.reading;
@@ -134,7 +135,7 @@ decide_keeps board store t words m o asked kind term value asks symbolic =
 -- what it has read
 pub read_known : (board : BoardParts) (store : List ℕ) (t : Table) (words : List Word) (m : Memory) (p : Progress)
     (read : Option Reading) (r : Reading) → read ≡ Some r → HasRead board store t words m p read
-    → IsReading board (microword_of board store p) t words m p r × AreNoLater (p.cycle + 1) words
+    → IsReading board (microword_of board store p) t words m p r × AreNoLater p.side (p.cycle + 1) words
 read_known board store t words m p read r is has =
     subst (λ (x : Option Reading). HasRead board store t words m p x) is has
 
@@ -159,7 +160,8 @@ asking_keeps board store t words m o kind is = record {
   at = is.at;
   sp = is.sp;
   parts = is.parts;
-  inputs = is.inputs;
+  line = is.line;
+  widths = is.widths;
   events = is.events;
   reading = is.reading;
   leaving = is.leaving;
@@ -247,7 +249,8 @@ leaving_keeps board store t words m o r l is_read known left is = record {
   at = is.at;
   sp = is.sp;
   parts = is.parts;
-  inputs = is.inputs;
+  line = is.line;
+  widths = is.widths;
   events = is.events;
   reading = is.reading;
   leaving = subst (λ (x : Option Reading). Leaves board store t o.place x (Some l)) (sym is_read) (left, known);
@@ -258,10 +261,12 @@ leaving_keeps board store t words m o r l is_read known left is = record {
 pub reading_keeps : (board : BoardParts) (store : List ℕ) (told tnew : Table) (wold wnew : List Word)
     (mold mnew : Memory) (o : Symbolic) (r : Reading)
     → o.reading ≡ None → IsSymbolic board store told wold mold o → AreParts board tnew o.place.parts
-    → AreEvents board tnew o.events → AreInputs board tnew wnew
-    → IsReading board (microword_of board store o.place) tnew wnew mnew o.place r → AreNoLater (o.place.cycle + 1) wnew
+    → AreEvents board tnew o.events → ((term : ℕ) → o.place.line ≡ Some term → IsOfWidth tnew 1 term)
+    → HaveWidths o.place.side board tnew wnew
+    → IsReading board (microword_of board store o.place) tnew wnew mnew o.place r
+    → AreNoLater o.place.side (o.place.cycle + 1) wnew
     → IsSymbolic board store tnew wnew mnew (record o { reading = Some r })
-reading_keeps board store told tnew wold wnew mold mnew o r none is parts events inputs read later =
+reading_keeps board store told tnew wold wnew mold mnew o r none is parts events line widths read later =
     let has : HasRead board store told wold mold o.place None =
     subst (λ (x : Option Reading). HasRead board store told wold mold o.place x) none is.reading in
     let leaves : Leaves board store told o.place None o.leaving =
@@ -271,7 +276,8 @@ reading_keeps board store told tnew wold wnew mold mnew o r none is parts events
       at = is.at;
       sp = is.sp;
       parts = parts;
-      inputs = inputs;
+      line = line;
+      widths = widths;
       events = events;
       reading = (read, later);
       leaving = none_left board store told tnew o.place o.leaving r leaves (omega (arith, count));

@@ -3,7 +3,8 @@ use Rattle.std.proofs.Common.{◌≡◌, inl, inr, ℕ, suc, ◌+◌, ◌≤◌,
 use Rattle.std.proofs.Common.{Option, Some, None, if◌then◌else◌, refl, sym, subst, ◌∙◌, ap, arith}
 use Rattle.mw_board.specs.declared.parts.BoardParts.{BoardParts}
 use Rattle.mw_term.specs.declared.kinds.WordKind.{WordKind}
-use Rattle.mw_term.specs.declared.kinds.WordKind.TheVariants.{Base, Line, Noise}
+use Rattle.mw_term.specs.declared.side.Side.{Side}
+use Rattle.mw_term.specs.declared.side.Side.TheVariants.{Board, Machine}
 use Rattle.mw_term.specs.Table.{Table, Extends, IsTable}
 use Rattle.mw_term.specs.Values.{Keeps}
 use Rattle.mw_term.specs.declared.word.Word.{Word}
@@ -12,16 +13,17 @@ use Rattle.mw_symmem.specs.Kinds.{kind_is, kind_own}
 use Rattle.mw_symmem.specs.Memory.{Memory, IsOfWidth}
 use Rattle.mw_symmem.specs.Words.{AreOf}
 use Rattle.mw_symmem.specs.Workspace.{GoesOn, HaveKinds, IsWorkspace}
-use Rattle.mw_symmem.proofs.Later.{goes_by_variable, goes_then}
+use Rattle.mw_symmem.proofs.Growth.{width_stays}
+use Rattle.mw_symmem.proofs.Later.{goes_by_variable}
 use Rattle.mw_symmem.proofs.Lists.{plain_behind, term_variable}
 use Rattle.mw_symboard.specs.Growth.{Grew}
 use Rattle.mw_cycle.specs.SteadySeries.{Series}
 use Rattle.mw_cycle.specs.SteadySeries as lists
-use Rattle.mw_cycle.specs.SteadySeries.{goes_by_cycle, kind_of}
-use Rattle.mw_cycle.proofs.Named.{no_input, no_variable, own_number}
-use Rattle.mw_symboard.specs.Kinds.{AreInputs, IsCycleKind, IsSourceKind}
+use Rattle.mw_cycle.specs.SteadySeries.{goes_by_cycle, kind_of, width_of}
+use Rattle.mw_cycle.proofs.Named.{no_input, own_number}
+use Rattle.mw_symboard.specs.Kinds.{AreInputs, HaveWidth, HaveWidths, IsCycleKind, IsSourceKind}
 use Rattle.mw_symboard.specs.Turns.{AreNoLater}
-use Rattle.mw_symboard.proofs.VariableWidths.{no_base, widths_with}
+use Rattle.mw_symboard.proofs.VariableWidths.{no_base, not_behind, widths_with}
 
 -- ---- a kind that isn't there
 
@@ -67,26 +69,48 @@ pub grew_term : (told tnew : Table) (old new : List Word) (kind : WordKind) → 
 grew_term told tnew old new kind grew =
     ap (λ (ws : List Word). term_of ws kind) grew.1.words ∙ plain_behind old grew.0 kind
 
-pub grew_none_later : (cycle : ℕ) (told tnew : Table) (old new : List Word) → Grew told tnew old new
-    → AreNoLater cycle old → AreNoLater cycle new
-grew_none_later cycle told tnew old new grew none series by n from =
-    grew_term told tnew old new (kind_of series n) grew ∙ none series by n from
+pub grew_none_later : (side : Side) (cycle : ℕ) (told tnew : Table) (old new : List Word) → Grew told tnew old new
+    → AreNoLater side cycle old → AreNoLater side cycle new
+grew_none_later side cycle told tnew old new grew none series by n from =
+    grew_term told tnew old new (kind_of side series n) grew ∙ none series by n from
 
 -- ---- with what a source of D makes
 
-no_source : (taken n : ℕ) (series : Series) → goes_by_cycle series ≡ true → IsSourceKind taken (kind_of series n) → ⊥
-no_source taken n series by is = elim is [
-  | inl h ↦ no_variable (Base h.0) series n refl (sym h.1)
-  | inr h ↦ no_input series n taken by h
+no_source : (side : Side) (taken n : ℕ) (series : Series) → goes_by_cycle series ≡ true
+    → IsSourceKind taken (kind_of side series n) → ⊥
+no_source side taken n series by is = elim is [
+  | inl h ↦ no_base side series n h.0 h.1
+  | inr h ↦ no_input side series n taken by h
 ]
 
-pub source_none_later : (cycle taken : ℕ) (old new more : List Word) → new ≡ old ++ more
-    → HaveKinds (IsSourceKind taken) more → AreNoLater cycle old → AreNoLater cycle new
-source_none_later cycle taken old new more words kinds none series by n from =
-    let own = kind_of series n in
+pub source_none_later : (side : Side) (cycle taken : ℕ) (old new more : List Word) → new ≡ old ++ more
+    → HaveKinds (IsSourceKind taken) more → AreNoLater side cycle old → AreNoLater side cycle new
+source_none_later side cycle taken old new more words kinds none series by n from =
+    let own = kind_of side series n in
     ap (λ (ws : List Word). term_of ws own) words
     ∙ none_both old more own (none series by n from)
-    (none_kind (IsSourceKind taken) more own kinds (no_source taken n series by))
+    (none_kind (IsSourceKind taken) more own kinds (no_source side taken n series by))
+
+-- a source makes no variable of a list that goes by cycle
+pub source_width : (side : Side) (board : BoardParts) (taken : ℕ) (told tnew : Table) (wold wnew : List Word)
+    (mold mnew : Memory) (series : Series) → goes_by_cycle series ≡ true
+    → GoesOn (IsSourceKind taken) told tnew wold wnew mold mnew → HaveWidth side board told wold series
+    → HaveWidth side board tnew wnew series
+source_width side board taken told tnew wold wnew mold mnew series by goes widths n a at =
+    let own = kind_of side series n in
+    let none : term_of goes.more own ≡ None =
+    none_kind (IsSourceKind taken) goes.more own goes.kinds (no_source side taken n series by) in
+    let old : term_of wold own ≡ Some a =
+    sym (not_behind wold goes.more own none) ∙ ap (λ ws. term_of ws own) (sym goes.words) ∙ at in
+    width_stays told tnew (width_of board.width series) a goes.later.extends goes.later.keeps (widths n a old)
+
+-- with the inputs that it leaves all variables have their widths
+pub source_widths : (side : Side) (board : BoardParts) (taken : ℕ) (told tnew : Table) (wold wnew : List Word)
+    (mold mnew : Memory) → GoesOn (IsSourceKind taken) told tnew wold wnew mold mnew → AreInputs board tnew wnew
+    → HaveWidths side board told wold → HaveWidths side board tnew wnew
+source_widths side board taken told tnew wold wnew mold mnew goes inputs widths lists.Inputs = inputs
+source_widths side board taken told tnew wold wnew mold mnew goes inputs widths series =
+    source_width side board taken told tnew wold wnew mold mnew series refl goes (widths series)
 
 -- ---- line and noise
 
@@ -95,73 +119,60 @@ not_so true other = absurd (other refl)
 not_so false other = refl
 
 -- a variable of a cycle is none of a later one
-apart : (own series : Series) (cycle n : ℕ) → cycle + 1 ≤ n
-    → same_kind (kind_of own cycle) (kind_of series n) ≡ false
-apart own series cycle n later =
-    not_so (same_kind (kind_of own cycle) (kind_of series n))
+apart : (side : Side) (own series : Series) (cycle n : ℕ) → cycle + 1 ≤ n
+    → same_kind (kind_of side own cycle) (kind_of side series n) ≡ false
+apart side own series cycle n later =
+    not_so (same_kind (kind_of side own cycle) (kind_of side series n))
     (λ same.
     let one : cycle ≡ n =
-    own_number own series cycle n (kind_is (kind_of own cycle) (kind_of series n) same) in omega (arith, one, later))
+    own_number side own series cycle n (kind_is (kind_of side own cycle) (kind_of side series n) same) in
+    omega (arith, one, later))
 
--- what kinds have with a variable of a list more
-with_own : (own : Series) (cycle term : ℕ) (old new : List Word) (kind : WordKind)
-    → term_of old (kind_of own cycle) ≡ None → new ≡ old ++ variable term (kind_of own cycle) ∷ []
-    → term_of new kind ≡ (if same_kind (kind_of own cycle) kind then Some term else term_of old kind)
-with_own own cycle term old new kind none words =
-    ap (λ (ws : List Word). term_of ws kind) words ∙ term_variable old term (kind_of own cycle) kind none
+-- the line's is none of the noise
+pub line_apart : (side : Side) (m n : ℕ) → same_kind (kind_of side lists.Line m) (kind_of side lists.Noise n) ≡ false
+line_apart Board m n = refl
+line_apart Machine m n = refl
 
-pub absent_noise : (cycle : ℕ) (w0 w1 : List Word) (line : ℕ) → AreNoLater cycle w0
-    → w1 ≡ w0 ++ variable line (Line cycle) ∷ [] → term_of w1 (Noise cycle) ≡ None
-absent_noise cycle w0 w1 line none words =
-    with_own lists.Line cycle line w0 w1 (Noise cycle) (none lists.Line refl cycle (omega arith)) words
-    ∙ none lists.Noise refl cycle (omega arith)
+pub noise_apart : (side : Side) (m n : ℕ) → same_kind (kind_of side lists.Noise m) (kind_of side lists.Line n) ≡ false
+noise_apart Board m n = refl
+noise_apart Machine m n = refl
 
-module _ (cycle : ℕ) (t0 t1 t2 : Table) (w0 w1 w2 : List Word) (line noise : ℕ) (none : AreNoLater cycle w0)
-    (words : w1 ≡ w0 ++ variable line (Line cycle) ∷ []) (more : w2 ≡ w1 ++ variable noise (Noise cycle) ∷ []) where
-  before_noise : (kind : WordKind)
-      → term_of w1 kind ≡ (if same_kind (Line cycle) kind then Some line else term_of w0 kind)
-  before_noise kind = with_own lists.Line cycle line w0 w1 kind (none lists.Line refl cycle (omega arith)) words
+-- with a variable more, of a list that goes by cycle
+module _ (side : Side) (own : Series) (by : goes_by_cycle own ≡ true) (cycle : ℕ) (t0 t1 : Table) (w0 w1 : List Word)
+    (term : ℕ) (fresh : term_of w0 (kind_of side own cycle) ≡ None)
+    (words : w1 ≡ w0 ++ variable term (kind_of side own cycle) ∷ []) where
+  with_own : (kind : WordKind)
+      → term_of w1 kind ≡ (if same_kind (kind_of side own cycle) kind then Some term else term_of w0 kind)
+  with_own kind =
+      ap (λ (ws : List Word). term_of ws kind) words ∙ term_variable w0 term (kind_of side own cycle) kind fresh
 
-  with_noise : (kind : WordKind)
-      → term_of w2 kind ≡ (if same_kind (Noise cycle) kind then Some noise else term_of w1 kind)
-  with_noise kind = with_own lists.Noise cycle noise w1 w2 kind (absent_noise cycle w0 w1 line none words) more
+  pub own_there : term_of w1 (kind_of side own cycle) ≡ Some term
+  own_there =
+      with_own (kind_of side own cycle)
+      ∙ ap (λ (b : Bool). if b then Some term else term_of w0 (kind_of side own cycle))
+      (kind_own (kind_of side own cycle))
 
-  pub line_there : term_of w2 (Line cycle) ≡ Some line
-  line_there =
-      with_noise (Line cycle) ∙ before_noise (Line cycle)
-      ∙ ap (λ (b : Bool). if b then Some line else term_of w0 (Line cycle)) (kind_own (Line cycle))
+  pub other_kept : (kind : WordKind) → same_kind (kind_of side own cycle) kind ≡ false → term_of w1 kind
+      ≡ term_of w0 kind
+  other_kept kind other = with_own kind ∙ ap (λ (b : Bool). if b then Some term else term_of w0 kind) other
 
-  pub noise_there : term_of w2 (Noise cycle) ≡ Some noise
-  noise_there =
-      with_noise (Noise cycle)
-      ∙ ap (λ (b : Bool). if b then Some noise else term_of w1 (Noise cycle)) (kind_own (Noise cycle))
+  pub none_after : AreNoLater side (cycle + 1) w0 → AreNoLater side (cycle + 1) w1
+  none_after none series by n from =
+      other_kept (kind_of side series n) (apart side own series cycle n from) ∙ none series by n from
 
-  pub none_after : AreNoLater (cycle + 1) w2
-  none_after series by n from =
-      let own = kind_of series n in
-      with_noise own
-      ∙ ap (λ (b : Bool). if b then Some noise else term_of w1 own) (apart lists.Noise series cycle n from)
-      ∙ before_noise own ∙ ap (λ (b : Bool). if b then Some line else term_of w0 own)
-      (apart lists.Line series cycle n from)
-      ∙ none series by n (omega (arith, from))
+  pub widths_after : (board : BoardParts) → Extends t0 t1 → Keeps t0 t1 → IsOfWidth t1 (width_of board.width own) term
+      → HaveWidths side board t0 w0 → HaveWidths side board t1 w1
+  widths_after board extends keeps wide are series =
+      subst (λ (ws : List Word). HaveWidth side board t1 ws series) (sym words)
+      (widths_with side board t0 t1 w0 term own series cycle extends keeps fresh wide (are series))
 
-  pub inputs_after : (board : BoardParts) → Extends t0 t1 → Keeps t0 t1 → Extends t1 t2 → Keeps t1 t2
-      → IsOfWidth t1 1 line → IsOfWidth t2 14 noise → AreInputs board t0 w0 → AreInputs board t2 w2
-  inputs_after board extends keeps later_extends later_keeps line_wide noise_wide are =
-      let one : AreInputs board t1 w1 =
-      subst (λ (ws : List Word). AreInputs board t1 ws) (sym words)
-      (widths_with board t0 t1 w0 line lists.Line lists.Inputs cycle extends keeps
-      (none lists.Line refl cycle (omega arith)) line_wide are) in
-      subst (λ (ws : List Word). AreInputs board t2 ws) (sym more)
-      (widths_with board t1 t2 w1 noise lists.Noise lists.Inputs cycle later_extends later_keeps
-      (absent_noise cycle w0 w1 line none words) noise_wide one)
+  pub goes_by_own : (taken : ℕ) (m : Memory) → Extends t0 t1 → Keeps t0 t1 → IsTable t1 → (AreOf t0 w0 → AreOf t1 w1)
+      → IsWorkspace t0 w0 m → GoesOn (IsCycleKind side cycle taken) t0 t1 w0 w1 m m
+  goes_by_own taken m extends keeps table of workspace =
+      goes_by_variable (IsCycleKind side cycle taken) t0 t1 w0 w1 m term (kind_of side own cycle) words extends keeps
+      table of (inr (own, by, refl)) (no_base side own cycle) workspace
 
-  pub goes_by_both : (taken : ℕ) (m : Memory) → Extends t0 t1 → Keeps t0 t1 → IsTable t1
-      → (AreOf t0 w0 → AreOf t1 w1) → Extends t1 t2 → Keeps t1 t2 → IsTable t2 → (AreOf t1 w1 → AreOf t2 w2)
-      → IsWorkspace t0 w0 m → GoesOn (IsCycleKind cycle taken) t0 t2 w0 w2 m m
-  goes_by_both taken m extends keeps table of later_extends later_keeps later_table later_of workspace =
-      let first = goes_by_variable (IsCycleKind cycle taken) t0 t1 w0 w1 m line
-      (Line cycle) words extends keeps table of (inr (lists.Line, refl, refl)) (no_base lists.Line cycle) workspace in
-      goes_then (IsCycleKind cycle taken) t0 t1 t2 w0 w1 w2 m m m first
-      (goes_by_variable (IsCycleKind cycle taken) t1 t2 w1 w2 m noise (Noise cycle) more later_extends later_keeps
-      later_table later_of (inr (lists.Noise, refl, refl)) (no_base lists.Noise cycle) first.workspace)
+-- none of a cycle or later, and so none later
+pub later_none : (side : Side) (cycle : ℕ) (words : List Word) → AreNoLater side cycle words
+    → AreNoLater side (cycle + 1) words
+later_none side cycle words none series by n from = none series by n (omega (arith, from))

@@ -15,7 +15,7 @@ use Rattle.mw_term.specs.Numbered.{IsNumbered}
 use Rattle.mw_term.specs.WordList.{WordList, ended}
 use Rattle.mw_symmem.specs.declared.turn.Turn.{Turn}
 use Rattle.mw_symmem.specs.declared.turn.Turn.TheVariants.{Ask, Finished}
-use Rattle.mw_symmem.specs.Memory.{Memory}
+use Rattle.mw_symmem.specs.Memory.{Memory, writes_of}
 use Rattle.mw_symboard.specs.declared.leaving.Leaving.{Leaving}
 use Rattle.mw_symboard.specs.declared.reading.Reading.{Reading}
 use Rattle.mw_symboard.specs.Cycle.{bits_before, effect_by, number_in, pass_by, zero_by}
@@ -75,15 +75,15 @@ pub record StopsAt (board : BoardParts) (store : List ℕ) (writes : List Held) 
 -- Its cycle is done: all its words are there, it is where they lead, and the next cycle hasn't begun.
 pub record Ends (board : BoardParts) (store : List ℕ) (mold mnew : Memory) (old new : Symbolic)
     (lold lnew : WordList) : Type 0 where
-  pub here : (bits : List Bool) → words_left board store old mold.board bits lold
-      ≡ done bits (record { list = lnew; standing = standing_in new mnew.board })
+  pub here : (bits : List Bool) → words_left board store old (writes_of mold old.place.side) bits lold
+      ≡ done bits (record { list = lnew; standing = standing_in new (writes_of mnew old.place.side) })
   pub before : new.reading ≡ None
 
 -- a turn of a symbolic board adds words of the word table
 abbrev pub ListsTurn : BoardParts → List ℕ → (mold mnew : Memory) → (old new : Symbolic)
     → (lold lnew : WordList) → Turn → Type 0
 ListsTurn board store mold mnew old new lold lnew (Ask kind term) =
-    StopsAt board store mold.board old new lold lnew kind term
+    StopsAt board store (writes_of mold old.place.side) old new lold lnew kind term
 ListsTurn board store mold mnew old new lold lnew Finished = Ends board store mold mnew old new lold lnew
 
 -- no words but those that are left were added
@@ -107,10 +107,12 @@ IsAlong board store start l bits writes o now =
 abbrev pub GoesAlongCycle : BoardParts → List ℕ → (start : Standing) → WordList → (bits : List Bool)
     → (mold mnew : Memory) → (old new : Symbolic) → (lnew : WordList) → Turn → Type 0
 GoesAlongCycle board store start l bits mold mnew old new lnew (Ask kind term) =
-    (cycle_words board store start bits l ≡ stopped (standing_in old mold.board) (ended term lnew))
-    × ((bit : Bool) → IsAlong board store start l (bits ++ bit ∷ []) mold.board (decided_so new kind bit) lnew)
+    (cycle_words board store start bits l ≡ stopped (standing_in old (writes_of mold old.place.side)) (ended term lnew))
+    × ((bit : Bool)
+    → IsAlong board store start l (bits ++ bit ∷ []) (writes_of mold old.place.side) (decided_so new kind bit) lnew)
 GoesAlongCycle board store start l bits mold mnew old new lnew Finished =
-    cycle_words board store start bits l ≡ done [] (record { list = lnew; standing = standing_in new mnew.board })
+    cycle_words board store start bits l
+    ≡ done [] (record { list = lnew; standing = standing_in new (writes_of mnew old.place.side) })
 
 -- a cycle begins along no bits
 abbrev pub CyclesBegin : Type 0
@@ -121,7 +123,8 @@ CyclesBegin = (board : BoardParts) (store : List ℕ) (o : Symbolic) (writes : L
 abbrev pub CyclesGoAlong : Type 0
 CyclesGoAlong =
     (board : BoardParts) (store : List ℕ) (start : Standing) (l : WordList) (bits : List Bool) (mold mnew : Memory)
-    (old new : Symbolic) (lold lnew : WordList) (turn : Turn) → IsAlong board store start l bits mold.board old lold
+    (old new : Symbolic) (lold lnew : WordList) (turn : Turn)
+    → IsAlong board store start l bits (writes_of mold old.place.side) old lold
     → ListsTurn board store mold mnew old new lold lnew turn
     → GoesAlongCycle board store start l bits mold mnew old new lnew turn
 

@@ -16,7 +16,7 @@ use Rattle.mw_seq.specs.declared.instruction.CounterMove.{CounterMove}
 use Rattle.mw_seq.specs.declared.instruction.CounterMove.TheVariants as counters
 use Rattle.mw_seq.specs.declared.instruction.Effect.{Effect}
 use Rattle.mw_seq.specs.Instruction.{instruction_of, effect_of}
-use Rattle.mw_term.specs.declared.kinds.WordKind.TheVariants.{Line, Noise}
+use Rattle.mw_cycle.specs.SteadySeries.{Noise, kind_of}
 use Rattle.mw_term.specs.declared.op.Op.TheVariants.{Con, Not}
 use Rattle.mw_term.specs.Table.{Table}
 use Rattle.mw_term.specs.declared.word.Word.{Word}
@@ -29,7 +29,7 @@ use Rattle.mw_symboard.specs.Bits.{AreBits, AreSources}
 use Rattle.mw_symboard.specs.Made.{Is, IsFrom, IsMasked, IsR, IsS, IsAddendR, IsAddendS, IsF, IsEarlyBit, IsBitTerm}
 use Rattle.mw_symboard.specs.Made.{IsDirect, IsNext, IsLessOne, IsWrittenB, IsWrittenQ, AreLoaded, IsPart}
 use Rattle.mw_cycle.specs.BoardTerms.{Parts}
-use Rattle.mw_symboard.specs.Seen.{Progress}
+use Rattle.mw_symboard.specs.Seen.{Progress, line_term}
 
 -- ---- what was read
 
@@ -55,16 +55,16 @@ pub record AreOperands (board : BoardParts) (m : Microword) (t : Table) (p : Par
   pub second_wide : IsOfWidth t board.width second
   pub sources : AreSources board t n
 
--- what a cycle read from its place: the variables of line and noise, D, the carry in, the operands and F, the bits that
+-- what a cycle read from its place: the line and the variable of the noise, D, the carry in, the operands and F, the bits that
 -- were made, the condition and Y
 pub record IsReading (board : BoardParts) (m : Microword) (t : Table) (words : List Word) (memory : Memory)
     (p : Progress) (made : Reading) : Type 0 where
   pub d : ℕ
   pub first : ℕ
   pub second : ℕ
-  pub line : term_of words (Line p.cycle) ≡ Some made.sources.line
-  pub noise : term_of words (Noise p.cycle) ≡ Some made.sources.noise
-  pub source : IsFrom board m.word t words memory p.parts p.taken m.d.from made.source
+  pub line : line_term words p ≡ Some made.sources.line
+  pub noise : term_of words (kind_of p.side Noise p.cycle) ≡ Some made.sources.noise
+  pub source : IsFrom board m.word t words memory p.side p.parts p.taken m.d.from made.source
   pub masked : IsMasked t board.width m.d.mask made.source d
   pub carry : IsEarlyBit board t p.parts p.sp made.sources.line m.carry_in made.sources.carry
   pub function : made.sources.function ≡ function_of m.instruction
@@ -145,6 +145,7 @@ IsMar false board t old y term = term ≡ old
 -- what the parts of a place are after the edge
 pub record IsEdge (board : BoardParts) (m : Microword) (t : Table) (old new : Progress) (made : Reading)
     (l : Leaving) : Type 0 where
+  pub side : new.side ≡ old.side
   pub written : Option ℕ
   pub is_written : IsWrittenB (destination_of m.instruction) board m t old.parts old.sp made.sources written
   pub regs : new.parts.regs ≡ with_taken old.parts.regs m.b_address written

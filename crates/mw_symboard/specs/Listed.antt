@@ -1,5 +1,5 @@
 -- The words that a cycle adds on terms are those of the word table.
-use Rattle.std.specs.Prelude.{◌≡◌, ℕ, ◌+◌, List, ◌++◌, Option}
+use Rattle.std.specs.Prelude.{◌≡◌, ℕ, ◌+◌, List, ◌++◌, None, Option}
 use Rattle.mw_cycle.specs.declared.microword.Microword.{Microword}
 use Rattle.mw_cycle.specs.BoardTerms.{Standing}
 use Rattle.mw_cycle.specs.EdgeWords.{Loaded, Takes, shown, taken_after, with_write_if}
@@ -55,6 +55,7 @@ ListsTaken said told tnew wold wnew bold bnew taken =
 -- where a symbolic board is between two cycles
 abbrev pub standing_of : Progress → (writes : List Held) → List SymEvent → Standing
 standing_of p writes events = record {
+  side = p.side;
   at = p.at;
   sp = p.sp;
   parts = p.parts;
@@ -62,6 +63,7 @@ standing_of p writes events = record {
   events = events;
   cycle = p.cycle;
   taken = p.taken;
+  line = p.line;
 }
 
 -- what is known of a cycle's end
@@ -98,6 +100,7 @@ reading_in t ws m r = record { list = list_in t ws m; reading = reading_of r }
 abbrev pub standing_after : Microword → (old new : Progress) → words.Reading → (writes : List Held)
     → List SymEvent → Standing
 standing_after m old new reading writes events = record {
+  side = old.side;
   at = new.at;
   sp = new.sp;
   parts = new.parts;
@@ -105,4 +108,5 @@ standing_after m old new reading writes events = record {
   events = events ++ shown m.d.from m.out reading.source reading.y;
   cycle = old.cycle + 1;
   taken = taken_after m.d.from old.taken;
+  line = None;
 }

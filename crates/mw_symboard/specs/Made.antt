@@ -36,7 +36,7 @@ use Rattle.mw_term.specs.declared.kinds.WordKind.TheVariants.{Input}
 use Rattle.mw_term.specs.declared.op.Op.{Op}
 use Rattle.mw_term.specs.declared.op.Op.TheVariants.{Con, Not, And, Or, Xor, Sum, Cout, Ovf, Eq, Part, Join, Tab}
 use Rattle.mw_term.specs.Table.{Table}
-use Rattle.mw_term.specs.declared.side.Side.TheVariants as side
+use Rattle.mw_term.specs.declared.side.Side.{Side}
 use Rattle.mw_term.specs.declared.word.Word.{Word}
 use Rattle.mw_term.specs.WordList.{term_of}
 use Rattle.mw_symmem.specs.Memory.{Memory, IsRead}
@@ -59,16 +59,16 @@ IsPart t whole_width whole low width term =
 -- ---- D
 
 -- D before its mask
-abbrev pub IsFrom : BoardParts → (word : ℕ) → Table → List Word → Memory → Parts → (taken : ℕ) → DFrom
+abbrev pub IsFrom : BoardParts → (word : ℕ) → Table → List Word → Memory → Side → Parts → (taken : ℕ) → DFrom
     → (term : ℕ) → Type 0
-IsFrom board word t words m p taken sources.Zero term = Is t (Con 0 board.width) term
-IsFrom board word t words m p taken sources.Memory term = IsRead t m side.Board p.mar term
-IsFrom board word t words m p taken sources.Ir term = term ≡ p.ir
-IsFrom board word t words m p taken sources.Mar term = IsWidened t board.address board.width p.mar term
-IsFrom board word t words m p taken sources.Input term = term_of words (Input taken) ≡ Some term
-IsFrom board word t words m p taken (sources.Field n) term =
+IsFrom board word t words m side p taken sources.Zero term = Is t (Con 0 board.width) term
+IsFrom board word t words m side p taken sources.Memory term = IsRead t m side p.mar term
+IsFrom board word t words m side p taken sources.Ir term = term ≡ p.ir
+IsFrom board word t words m side p taken sources.Mar term = IsWidened t board.address board.width p.mar term
+IsFrom board word t words m side p taken sources.Input term = term_of words (Input taken) ≡ Some term
+IsFrom board word t words m side p taken (sources.Field n) term =
     Is t (Con (in_field (slice_get board.fields n) word % 2 ^ board.width) board.width) term
-IsFrom board word t words m p taken (sources.Flip n) term = IsWidened t 1 board.width (slice_index p.flips n) term
+IsFrom board word t words m side p taken (sources.Flip n) term = IsWidened t 1 board.width (slice_index p.flips n) term
 
 -- D behind its mask
 abbrev pub IsMasked : Table → (width : ℕ) → Option ℕ → (whole term : ℕ) → Type 0

@@ -20,3 +20,8 @@ pub record AreParts (board : BoardParts) (t : Table) (p : Parts) : Type 0 where
 abbrev pub AreElements : BoardParts → Table → (terms : List ℕ) → Type 0
 AreElements board t terms =
     (n : ℕ) → n < element_count board → IsOfWidth t (bits_of board (element_of board n)) (slice_index terms n)
+
+-- parts have these terms for a board's elements, by their numbers
+abbrev pub HasElements : BoardParts → (terms : List ℕ) → Parts → Type 0
+HasElements board terms p =
+    (n : ℕ) → n < element_count board → term_of_part p (element_of board n) ≡ slice_index terms n

@@ -1,5 +1,5 @@
 -- A path of decided bits through the cycles of a board on terms: where it is true, the bits are the run's own.
-use Rattle.std.specs.Prelude.{◌≡◌, ℕ, ◌+◌, ◌<◌, List, [], ◌∷◌, ◌++◌, length, Bool, true, false, ◌==◌, Some, slice_get}
+use Rattle.std.specs.Prelude.{◌≡◌, ℕ, ◌+◌, ◌<◌, List, [], ◌∷◌, ◌++◌, length, Bool, true, false, ◌==◌, Option, Some, slice_get}
 use Rattle.mw_board.specs.declared.parts.BoardParts.{BoardParts}
 use Rattle.mw_term.specs.declared.decided.Decided.{Decided}
 use Rattle.mw_cycle.specs.Decided.{decided}
@@ -13,31 +13,42 @@ use Rattle.mw_term.specs.Table.{Table, IsTable}
 use Rattle.mw_term.specs.Values.{term_value}
 use Rattle.mw_symmem.specs.declared.turn.Turn.{Turn}
 use Rattle.mw_symmem.specs.declared.turn.Turn.TheVariants.{Ask, Finished}
-use Rattle.mw_symmem.specs.Memory.{Memory, IsOfWidth}
+use Rattle.mw_term.specs.declared.side.Side.{Side}
+use Rattle.mw_symmem.specs.Memory.{Memory, IsOfWidth, writes_of}
 use Rattle.mw_symmem.specs.Workspace.{GoesOn, IsLater, IsWorkspace, ReadsMore}
 use Rattle.mw_symboard.specs.Kinds.{IsCycleKind}
-use Rattle.mw_symboard.specs.Laws.{BeginsWith, Course, FitsSoFar, IsInRun, IsNew, bits_in, run_in}
-use Rattle.mw_symboard.specs.Parts.{AreElements, AreParts}
+use Rattle.mw_symboard.specs.Laws.{BeginsWith, Course, FitsSoFar, IsBeginning, IsInRun, bits_in, run_in}
+use Rattle.mw_symboard.specs.Parts.{AreElements, AreParts, HasElements}
 use Rattle.mw_symboard.specs.Seen.{AreFirst}
 use Rattle.mw_symboard.specs.Turns.{Symbolic, AreEvents, IsSymbolic, IsTurn, decided_so}
 
--- what a run begins with: a term for each element, by its number, a control address, and how many words the stack has
+-- what a run begins with: its side of the memory, a term for each element, by its number, a control address, how many words
+-- the stack has, and a term for its first line, where that is there already
 pub record Origin : Type 0 where
+  pub side : Side
   pub terms : List ℕ
   pub at : ℕ
   pub sp : ℕ
+  pub line : Option ℕ
+
+-- its terms have their widths
+pub record AreOrigins (board : BoardParts) (t : Table) (b : Origin) : Type 0 where
+  pub elements : AreElements board t b.terms
+  pub line : (term : ℕ) → b.line ≡ Some term → IsOfWidth t 1 term
 
 -- under an assignment, a run fits what was read so far, and begins as this says
 pub record IsOneOf (board : BoardParts) (t : Table) (words : List Word) (m : Memory) (b : Origin) (given : Given)
     (x : Course) : Type 0 where
-  pub fits : FitsSoFar board t words m given x
-  pub begins : BeginsWith board t given b.terms b.at b.sp x
+  pub fits : FitsSoFar b.side board t words m given x
+  pub begins : BeginsWith board t given b.terms b.at b.sp b.line x
 
 -- A path of decided bits, of which these were decided so far: of each run that begins as this says, under each
 -- assignment, it is true exactly where the bits are the first ones of the run's own; and then the board is in that run.
 pub record IsPath (board : BoardParts) (store : List ℕ) (t : Table) (words : List Word) (m : Memory) (b : Origin)
     (o : Symbolic) (bits : List Decided) (path : Function) : Type 0 where
-  pub elements : AreElements board t b.terms
+  pub origin : AreOrigins board t b
+  pub side : o.place.side ≡ b.side
+  pub line : (term : ℕ) → o.place.line ≡ Some term → IsOfWidth t 1 term
   pub in_run : (given : Given) (x : Course) → IsOneOf board t words m b given x → path given ≡ true
       → IsInRun board store t m given x o bits
   pub only : (given : Given) (x : Course) → IsOneOf board t words m b given x → (n : ℕ) → o.place.cycle < n
@@ -75,8 +86,9 @@ pub record IsBy (t : Table) (term : ℕ) (value : Bool) (path next : Function) :
 abbrev pub PathsBegin : Type 0
 PathsBegin =
     (board : BoardParts) (store : List ℕ) (t : Table) (words : List Word) (m : Memory) (b : Origin) (o : Symbolic)
-    (path : Function) → AreElements board t b.terms → IsNew board b.terms o → o.place.at ≡ b.at → o.place.sp ≡ b.sp
-    → m.board ≡ [] → ((given : Given) → path given ≡ true) → IsPath board store t words m b o [] path
+    (path : Function) → AreOrigins board t b → HasElements board b.terms o.place.parts
+    → IsBeginning b.side b.at b.sp b.line o → writes_of m b.side ≡ []
+    → ((given : Given) → path given ≡ true) → IsPath board store t words m b o [] path
 
 -- A turn keeps the path. Where it asks for a bit, that is the next of the run's own; where the cycle is finished, the
 -- bits so far are all those of the cycles finished so far.
@@ -85,7 +97,7 @@ PathsGoOn =
     (board : BoardParts) (store : List ℕ) (told tnew : Table) (wold wnew : List Word) (mold mnew : Memory)
     (old new : Symbolic) (turn : Turn) (b : Origin) (bits : List Decided) (path : Function) → IsWorkspace told wold mold
     → IsSymbolic board store told wold mold old
-    → GoesOn (IsCycleKind old.place.cycle old.place.taken) told tnew wold wnew mold mnew
+    → GoesOn (IsCycleKind old.place.side old.place.cycle old.place.taken) told tnew wold wnew mold mnew
     → IsTurn board store tnew wnew mold mnew old new turn → IsPath board store told wold mold b old bits path
     → IsPath board store tnew wnew mnew b new bits path
     × ((kind : DecidedKind) (term : ℕ) → turn ≡ Ask kind term
@@ -108,13 +120,13 @@ SplitsAreBy =
     → (Agree next (made (ite (bit t term 0) path never)) → IsBy t term true path next)
     × (Agree next (made (ite (bit t term 0) never path)) → IsBy t term false path next)
 
--- Other calls keep a path: while they make terms, read the memory and write on the machine's side.
+-- Other calls keep a path: while they make terms, read the memory and write on the other side.
 abbrev pub PathsStay : Type 0
 PathsStay =
     (board : BoardParts) (store : List ℕ) (told tnew : Table) (wold wnew more : List Word) (mold mnew : Memory)
     (b : Origin) (o : Symbolic) (bits : List Decided) (path : Function) → IsWorkspace told wold mold → IsLater told tnew
-    → wnew ≡ wold ++ more → ReadsMore mold mnew → mnew.board ≡ mold.board → AreParts board told o.place.parts
-    → AreEvents board told o.events → IsPath board store told wold mold b o bits path
+    → wnew ≡ wold ++ more → ReadsMore mold mnew → writes_of mnew b.side ≡ writes_of mold b.side
+    → AreParts board told o.place.parts → AreEvents board told o.events → IsPath board store told wold mold b o bits path
     → IsPath board store tnew wnew mnew b o bits path
 
 -- The control addresses after the first cycles stay, through turns and other calls, on a path and on each by a bit of
@@ -123,7 +135,7 @@ abbrev pub PassedStay : Type 0
 PassedStay =
     (board : BoardParts) (store : List ℕ) (told tnew : Table) (wold wnew more : List Word) (mold mnew : Memory)
     (b : Origin) (addresses : List ℕ) (path next : Function) → IsWorkspace told wold mold → IsLater told tnew
-    → wnew ≡ wold ++ more → ReadsMore mold mnew → AreElements board told b.terms
+    → wnew ≡ wold ++ more → ReadsMore mold mnew → AreOrigins board told b
     → ((given : Given) → next given ≡ true → path given ≡ true)
     → ArePassed board store told wold mold b addresses path → ArePassed board store tnew wnew mnew b addresses next
 

@@ -1,6 +1,7 @@
 -- What terms stand for in a cycle: the nets of a board in a state, under every assignment and over every
 -- image that fits.
-use Rattle.std.specs.Prelude.{◌≡◌, ℕ, ◌<◌, ◌^◌, List, length, take, Some, Bool}
+use Rattle.std.specs.Prelude.{◌≡◌, ℕ, ◌<◌, ◌^◌, List, length, take, Option, Some, Bool}
+use Rattle.std.specs.Option.{option_or}
 use Rattle.mw_base.specs.Words.{differ, num}
 use Rattle.mw_alu.specs.declared.answer.AluOut.{AluOut}
 use Rattle.mw_board.specs.declared.bit.Bit.{Bit}
@@ -16,24 +17,28 @@ use Rattle.mw_cycle.specs.Microword.{points_of}
 use Rattle.mw_cycle.specs.declared.state.CycleIn.{CycleIn}
 use Rattle.mw_cycle.specs.Elements.{IsElement, value_of}
 use Rattle.mw_cycle.specs.State.{BoardState, Fits}
-use Rattle.mw_term.specs.declared.kinds.WordKind.TheVariants.{Line, Noise, Input}
+use Rattle.mw_cycle.specs.SteadySeries.{Line, Noise, kind_of}
+use Rattle.mw_term.specs.declared.kinds.WordKind.TheVariants.{Input}
 use Rattle.mw_term.specs.Assigned.{Given}
 use Rattle.mw_term.specs.Table.{Table}
 use Rattle.mw_term.specs.Values.{term_value}
-use Rattle.mw_term.specs.declared.side.Side.TheVariants as side
+use Rattle.mw_term.specs.declared.side.Side.{Side}
 use Rattle.mw_term.specs.declared.word.Word.{Word}
 use Rattle.mw_term.specs.WordList.{term_of}
 use Rattle.mw_symmem.specs.Memory.{Memory, IsImage, IsOfWidth, FitImage, held_by}
 use Rattle.mw_cycle.specs.BoardTerms.{Parts, term_of_part}
 
--- Where a symbolic board is: its control address and stack pointer, which are numbers, a term for each element, how
--- many cycles it has finished and how many inputs it has taken, and the bits decided so far of the cycle that it is in.
+-- Where a symbolic board is: whose side of the memory it has, its control address and stack pointer, which are numbers, a
+-- term for each element, how many cycles it has finished and how many inputs it has taken, the term of its cycle's line,
+-- where that was there before the cycle, and the bits decided so far of the cycle that it is in.
 pub record Progress : Type 0 where
+  pub side : Side
   pub at : ℕ
   pub sp : ℕ
   pub parts : Parts
   pub cycle : ℕ
   pub taken : ℕ
+  pub line : Option ℕ
   pub decided : List Decided
 
 -- what a cycle has to do with: an image of the memory, a state, and the outside
@@ -49,13 +54,17 @@ pub record IsStateOf (board : BoardParts) (t : Table) (given : Given) (m : Memor
   pub at : s.at ≡ p.at
   pub sp : s.seq.sp ≡ p.sp
   pub elements : (e : Element) → IsElement board e → value_of s e ≡ term_value t given (term_of_part p.parts e)
-  pub memory : s.memory ≡ held_by t given m side.Board image
+  pub memory : s.memory ≡ held_by t given m p.side image
 
--- the outside of a cycle has the values of its variables, of those that are there
+-- the term of the line of its cycle: the one that was there before, or else that of a variable
+abbrev pub line_term : List Word → Progress → Option ℕ
+line_term words p = option_or p.line (term_of words (kind_of p.side Line p.cycle))
+
+-- the outside of a cycle has the values of its line and of its variables, of those that are there
 pub record IsOutside (board : BoardParts) (t : Table) (given : Given) (words : List Word) (p : Progress)
     (c : CycleIn) : Type 0 where
-  pub line : (term : ℕ) → term_of words (Line p.cycle) ≡ Some term → term_value t given term ≡ num c.line
-  pub noise : (term : ℕ) → term_of words (Noise p.cycle) ≡ Some term → term_value t given term ≡ c.noise
+  pub line : (term : ℕ) → line_term words p ≡ Some term → term_value t given term ≡ num c.line
+  pub noise : (term : ℕ) → term_of words (kind_of p.side Noise p.cycle) ≡ Some term → term_value t given term ≡ c.noise
   pub input : (term : ℕ) → term_of words (Input p.taken) ≡ Some term → term_value t given term ≡ c.input
   pub noise_below : c.noise < 2 ^ 14
   pub input_below : c.input < 2 ^ board.width

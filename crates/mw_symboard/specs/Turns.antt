@@ -24,13 +24,14 @@ use Rattle.mw_term.specs.declared.event.SymEvent.TheVariants.{Out, Taken}
 use Rattle.mw_symmem.specs.declared.turn.Turn.{Turn}
 use Rattle.mw_symmem.specs.declared.turn.Turn.TheVariants.{Ask, Finished}
 use Rattle.mw_term.specs.declared.word.Word.{Word}
-use Rattle.mw_term.specs.declared.side.Side.TheVariants as side
+use Rattle.mw_term.specs.declared.side.Side.{Side}
+use Rattle.mw_term.specs.declared.side.Side.TheVariants.{Board, Machine}
 use Rattle.mw_symmem.specs.Memory.{Memory, memory_of, with_write, IsOfWidth}
 use Rattle.mw_term.specs.WordList.{term_of}
 use Rattle.mw_symboard.specs.declared.reading.Reading.{Reading}
 use Rattle.mw_symboard.specs.declared.leaving.Leaving.{Leaving}
 use Rattle.mw_symboard.specs.Cycle.{IsReading, IsLeaving, bits_before}
-use Rattle.mw_symboard.specs.Kinds.{AreInputs}
+use Rattle.mw_symboard.specs.Kinds.{HaveWidths}
 use Rattle.mw_symboard.specs.Parts.{AreParts}
 use Rattle.mw_symboard.specs.Seen.{Progress, Scene, IsSeen, IsStateOf, microword_of, after_net}
 
@@ -61,17 +62,22 @@ shown_by from false source y o = o
 
 -- it with one cycle more that is finished
 abbrev pub cycle_left : Symbolic → Symbolic
-cycle_left o = record o { place = record o.place { cycle = o.place.cycle + 1; decided = [] } }
+cycle_left o = record o { place = record o.place { cycle = o.place.cycle + 1; line = None; decided = [] } }
 
--- a memory in which the word at an address of the board's side takes a value, where it does
-abbrev pub written_if : (write : Bool) → Memory → (address value : ℕ) → Memory
-written_if true m address value = with_write m side.Board (held address value)
-written_if false m address value = m
+-- a memory in which the word at an address of a side takes a value, where it does
+abbrev pub written_if : (write : Bool) → Memory → Side → (address value : ℕ) → Memory
+written_if true m side address value = with_write m side (held address value)
+written_if false m side address value = m
 
--- of the lists that go by cycle no variable of this cycle, or of a later one, is among some words
-abbrev pub AreNoLater : (cycle : ℕ) → List Word → Type 0
-AreNoLater cycle words =
-    (series : Series) → goes_by_cycle series ≡ true → (n : ℕ) → cycle ≤ n → term_of words (kind_of series n) ≡ None
+-- the side that isn't this one
+abbrev pub other_side : Side → Side
+other_side Board = Machine
+other_side Machine = Board
+
+-- of the lists that go by cycle no variable of this cycle of the board of a side, or of a later one, is among some words
+abbrev pub AreNoLater : Side → (cycle : ℕ) → List Word → Type 0
+AreNoLater side cycle words = (series : Series) → goes_by_cycle series ≡ true → (n : ℕ) → cycle ≤ n
+    → term_of words (kind_of side series n) ≡ None
 
 -- the term of an event
 abbrev pub event_term : SymEvent → ℕ
@@ -84,9 +90,9 @@ AreEvents board t es = (k : ℕ) (e : SymEvent) → slice_get es k ≡ Some e �
 
 -- what a cycle has read, if it has begun
 abbrev pub HasRead : BoardParts → List ℕ → Table → List Word → Memory → Progress → Option Reading → Type 0
-HasRead board store t words m p None = (p.decided ≡ []) × AreNoLater p.cycle words
+HasRead board store t words m p None = (p.decided ≡ []) × AreNoLater p.side p.cycle words
 HasRead board store t words m p (Some r) =
-    IsReading board (microword_of board store p) t words m p r × AreNoLater (p.cycle + 1) words
+    IsReading board (microword_of board store p) t words m p r × AreNoLater p.side (p.cycle + 1) words
 
 -- what it knows of its end, if it knows it
 abbrev pub Leaves : BoardParts → List ℕ → Table → Progress → Option Reading → Option Leaving → Type 0
@@ -102,7 +108,8 @@ pub record IsSymbolic (board : BoardParts) (store : List ℕ) (t : Table) (words
   pub at : o.place.at < 2 ^ 12
   pub sp : o.place.sp ≤ depth_of board
   pub parts : AreParts board t o.place.parts
-  pub inputs : AreInputs board t words
+  pub line : (term : ℕ) → o.place.line ≡ Some term → IsOfWidth t 1 term
+  pub widths : HaveWidths o.place.side board t words
   pub events : AreEvents board t o.events
   pub reading : HasRead board store t words m o.place o.reading
   pub leaving : Leaves board store t o.place o.reading o.leaving
@@ -161,6 +168,6 @@ IsTurn board store t words mold mnew old new (Ask kind term) =
     × Asks board store t words mnew new kind term
 IsTurn board store t words mold mnew old new Finished =
     (new.asked ≡ None) × (new.place.decided ≡ []) × (new.place.cycle ≡ old.place.cycle + 1)
-    × (new.place.taken ≤ old.place.taken + 1)
+    × (new.place.taken ≤ old.place.taken + 1) × (new.place.side ≡ old.place.side) × (new.place.line ≡ None)
     × ((given : Given) (x : Scene) → IsSeen board store t words (with_reads mold mnew.reads) old.place given x
     → IsDone board store t words mold mnew old new given x)

@@ -293,6 +293,7 @@ fn go_to_address(
     ensures pc { place.new.parts.pc ≡ pc }
     ensures r { place.new.parts.r ≡ r }
     ensures stack { place.new.parts.stack ≡ with_pushed place.old.parts.stack moved.pushed place.old.parts.pc }
+    ensures side { place.new.side ≡ place.old.side }
     ensures cycle { place.new.cycle ≡ place.old.cycle }
     ensures inputs { place.new.taken ≡ place.old.taken }
     ensures decided { place.new.decided ≡ place.old.decided }
@@ -325,6 +326,7 @@ pub(crate) fn take_edge(
     ensures parts { OnOk result (AreParts board.now terms.new place.new.parts) }
     ensures at { OnOk result (place.new.at < 2 ^ 12) }
     ensures sp { OnOk result (place.new.sp ≤ depth_of board.now) }
+    ensures side { place.new.side ≡ place.old.side }
     ensures cycle { place.new.cycle ≡ place.old.cycle }
     ensures inputs { place.new.taken ≡ place.old.taken }
     ensures source { reading.new.source ≡ reading.old.source }

@@ -9,7 +9,7 @@ ghost use Rattle.mw_cycle.specs.Elements.{element_of};
 ghost use Rattle.mw_cycle.specs.Microword.{IsMicroword};
 ghost use Rattle.mw_term.specs.Table.{Table};
 ghost use Rattle.mw_term.specs.declared.word.Word.{Word};
-ghost use Rattle.mw_symmem.specs.Memory.{Memory, IsOfWidth};
+ghost use Rattle.mw_symmem.specs.Memory.{Memory, IsOfWidth, writes_of};
 ghost use Rattle.mw_symmem.specs.Workspace.{GoesOn, IsWorkspace, KeepsWrites, ReadsMore};
 ghost use Rattle.mw_term.specs.Assigned.{Given};
 ghost use Rattle.mw_symboard.specs.declared.leaving.Leaving.{Leaving};
@@ -20,13 +20,15 @@ ghost use Rattle.mw_symboard.specs.Bits.{AreBits, AreSources};
 ghost use Rattle.mw_symboard.specs.Cycle.{IsEdge, bits_before, effect_by};
 ghost use Rattle.mw_symboard.specs.Seen.{IsSeen, Scene, microword_of};
 ghost use Rattle.mw_symboard.specs.Growth.{Grew};
-ghost use Rattle.mw_symboard.specs.Kinds.{AreInputs, IsCycleKind};
-ghost use Rattle.mw_symboard.specs.Parts.{AreElements, AreParts};
+ghost use Rattle.mw_symboard.specs.Kinds.{HaveWidths, IsCycleKind};
+ghost use Rattle.mw_symboard.specs.Parts.{AreElements, AreParts, HasElements};
 ghost use Rattle.mw_cycle.specs.BoardTerms.{term_of_part};
+ghost use Rattle.mw_symboard.specs.Laws.{IsBeginning};
+ghost use Rattle.mw_term.specs.declared.side.Side.TheVariants as sides;
 ghost use Rattle.mw_symmem.specs.declared.turn.Turn.TheVariants.{Ask, Finished};
 ghost use Rattle.mw_term.specs.declared.decided.DecidedKind.{DecidedKind};
 ghost use Rattle.mw_symboard.specs.Turns.{AreNoLater, Asks, IsDone, IsSymbolic, IsTurn, cycle_left, decided_so};
-ghost use Rattle.mw_symboard.specs.Turns.{reads_to_come, shown_by, written_if};
+ghost use Rattle.mw_symboard.specs.Turns.{other_side, reads_to_come, shown_by, written_if};
 ghost use Rattle.mw_cycle.specs.EdgeWords.{edge_words};
 ghost use Rattle.mw_term.specs.declared.event.SymEvent.{SymEvent};
 ghost use Rattle.mw_term.specs.MemoryRead.{Held};
@@ -77,20 +79,21 @@ impl Model for SymBoard {
     } };
 }
 
-/// The word at an address takes a value, where it does.
+/// The word at an address of a side takes a value, where it does.
 fn write_memory(
     alloc: Global,
     write: bool,
+    side: Side,
     address: Term,
     value: Term,
     memory: &mut SymMemory,
 ) -> Result<(), NoMemory>
-    ensures { OnOk result (memory.new ≡ written_if write memory.old address value) }
+    ensures { OnOk result (memory.new ≡ written_if write memory.old side address value) }
 {
     if !write {
         return Ok(());
     }
-    memory.write(alloc, Side::Board, address, value)
+    memory.write(alloc, side, address, value)
 }
 
 impl SymBoard {
@@ -115,9 +118,45 @@ impl SymBoard {
         })
     }
 
+    /// A board of a side, with a term for its first line where there is one. No cycle is finished and no input taken.
+    fn begun(
+        alloc: Global,
+        board: &Board,
+        side: Side,
+        address: u16,
+        sp: u8,
+        elements: &[Term],
+        line: Option<Term>,
+    ) -> Result<SymBoard, NoMemory>
+        requires elements { length elements.now ≡ element_count board.now }
+        ensures elements { IfOk result (λ b. HasElements board.now elements.now b.place.parts) }
+        ensures begins { IfOk result (λ b. IsBeginning side address sp line b) }
+        ensures symbolic { IfOk result (λ b. (store : List ℕ) (t : Table) (words : List Word) (m : Memory)
+            → address < 2 ^ 12 → sp ≤ depth_of board.now → AreElements board.now t elements.now
+            → ((term : ℕ) → line ≡ Some term → IsOfWidth t 1 term)
+            → HaveWidths side board.now t words → AreNoLater side 0 words → IsSymbolic board.now store t words m b) }
+    {
+        Ok(SymBoard {
+            place: Progress {
+                side,
+                at: address,
+                sp,
+                parts: Parts::new(alloc, board, elements)?,
+                cycle: 0,
+                taken: 0,
+                line,
+                decided: Path::new(),
+            },
+            events: Vec::new(alloc),
+            reading: None,
+            leaving: None,
+            asked: None,
+        })
+    }
+
     /// A board at a control address, with so many words on its stack, and with these terms for its elements, by their
-    /// numbers. It may go on where the address is below 4,096, the stack has so many words, and each term has its
-    /// element's width. No cycle is finished and no input taken.
+    /// numbers. It reads and writes the board's side of the memory. It may go on where the address is below 4,096, the
+    /// stack has so many words, and each term has its element's width. No cycle is finished and no input taken.
     ///
     /// # Errors
     ///
@@ -130,34 +169,43 @@ impl SymBoard {
         elements: &[Term],
     ) -> Result<SymBoard, NoMemory>
         requires elements { length elements.now ≡ element_count board.now }
-        ensures elements { IfOk result (λ b. (n : ℕ) → n < element_count board.now
-            → term_of_part b.place.parts (element_of board.now n) ≡ slice_index elements.now n) }
-        ensures at { IfOk result (λ b. b.place.at ≡ address) }
-        ensures sp { IfOk result (λ b. b.place.sp ≡ sp) }
-        ensures cycle { IfOk result (λ b. b.place.cycle ≡ 0) }
-        ensures taken { IfOk result (λ b. b.place.taken ≡ 0) }
-        ensures decided { IfOk result (λ b. b.place.decided ≡ []) }
-        ensures events { IfOk result (λ b. b.events ≡ []) }
-        ensures asked { IfOk result (λ b. b.asked ≡ None) }
-        ensures reading { IfOk result (λ b. b.reading ≡ None) }
+        ensures elements { IfOk result (λ b. HasElements board.now elements.now b.place.parts) }
+        ensures begins { IfOk result (λ b. IsBeginning sides.Board address sp None b) }
         ensures symbolic { IfOk result (λ b. (store : List ℕ) (t : Table) (words : List Word) (m : Memory)
             → address < 2 ^ 12 → sp ≤ depth_of board.now → AreElements board.now t elements.now
-            → AreInputs board.now t words → AreNoLater 0 words → IsSymbolic board.now store t words m b) }
+            → HaveWidths sides.Board board.now t words → AreNoLater sides.Board 0 words
+            → IsSymbolic board.now store t words m b) }
     {
-        Ok(SymBoard {
-            place: Progress {
-                at: address,
-                sp,
-                parts: Parts::new(alloc, board, elements)?,
-                cycle: 0,
-                taken: 0,
-                decided: Path::new(),
-            },
-            events: Vec::new(alloc),
-            reading: None,
-            leaving: None,
-            asked: None,
-        })
+        let begun = SymBoard::begun(alloc, board, Side::Board, address, sp, elements, None)?;
+        Ok(begun)
+    }
+
+    /// A board beside another, like one that `new` makes; but it reads and writes the machine's side of the memory, its
+    /// variables are those of a board beside another, and the line of its first cycle is this term of one bit, so that
+    /// no variable stands for it. Inputs have the other board's variables, by their numbers.
+    ///
+    /// # Errors
+    ///
+    /// Memory ran out.
+    pub fn beside(
+        alloc: Global,
+        board: &Board,
+        address: u16,
+        sp: u8,
+        elements: &[Term],
+        line: Term,
+    ) -> Result<SymBoard, NoMemory>
+        requires elements { length elements.now ≡ element_count board.now }
+        ensures elements { IfOk result (λ b. HasElements board.now elements.now b.place.parts) }
+        ensures begins { IfOk result (λ b. IsBeginning sides.Machine address sp (Some line) b) }
+        ensures symbolic { IfOk result (λ b. (store : List ℕ) (t : Table) (words : List Word) (m : Memory)
+            → address < 2 ^ 12 → sp ≤ depth_of board.now → AreElements board.now t elements.now
+            → IsOfWidth t 1 line → HaveWidths sides.Machine board.now t words → AreNoLater sides.Machine 0 words
+            → IsSymbolic board.now store t words m b) }
+    {
+        let line = Some(line);
+        let begun = SymBoard::begun(alloc, board, Side::Machine, address, sp, elements, line)?;
+        Ok(begun)
     }
 
     /// The microword of the cycle.
@@ -226,11 +274,12 @@ impl SymBoard {
         ensures place { self.new.place ≡ self.old.place }
         ensures events { self.new.events ≡ self.old.events }
         ensures asked { self.new.asked ≡ self.old.asked }
-        ensures goes { OnOk result (GoesOn (IsCycleKind self.old.place.cycle self.old.place.taken)
+        ensures goes { OnOk result (GoesOn (IsCycleKind self.old.place.side self.old.place.cycle self.old.place.taken)
             terms.old terms.new words.old words.new memory.old memory.new) }
         ensures writes { OnOk result (KeepsWrites memory.old memory.new) }
         ensures reads { OnOk result (length memory.new.reads ≤ length memory.old.reads + reads_to_come self.old) }
-        ensures listed { OnOk result (GoesAlong board.now store.now.words memory.old.board self.old self.new
+        ensures listed { OnOk result (GoesAlong board.now store.now.words
+            (writes_of memory.old self.old.place.side) self.old self.new
             (list_in terms.old words.old memory.old) (list_in terms.new words.new memory.new)) }
         ensures symbolic { OnOk result (IsSymbolic board.now store.now.words terms.new words.new memory.new self.new) }
     {
@@ -284,7 +333,7 @@ impl SymBoard {
         ensures place { self.new.place ≡ self.old.place }
         ensures events { self.new.events ≡ self.old.events }
         ensures listed { (kind : DecidedKind) (term : ℕ) → result ≡ Ask kind term
-            → StopsAt board.now store.now.words memory.now.board self.old self.new
+            → StopsAt board.now store.now.words (writes_of memory.now self.old.place.side) self.old self.new
             (list_in terms.now words.now memory.now) (list_in terms.now words.now memory.now) kind term }
         ensures symbolic { IsSymbolic board.now store.now.words terms.now words.now memory.now self.new }
     {
@@ -314,7 +363,7 @@ impl SymBoard {
         ensures events { self.new.events ≡ self.old.events }
         ensures grew { OnOk result (Grew terms.old terms.new words.old words.new) }
         ensures listed { IfOk result (λ turn. (kind : DecidedKind) (term : ℕ) → turn ≡ Ask kind term
-            → StopsAt board.now store.now.words memory.now.board self.old self.new
+            → StopsAt board.now store.now.words (writes_of memory.now self.old.place.side) self.old self.new
             (list_in terms.old words.old memory.now) (list_in terms.new words.new memory.now) kind term) }
         ensures symbolic { OnOk result (IsSymbolic board.now store.now.words terms.new words.new memory.now self.new) }
     {
@@ -344,7 +393,7 @@ impl SymBoard {
         ensures events { self.new.events ≡ self.old.events }
         ensures grew { OnOk result (Grew terms.old terms.new words.old words.new) }
         ensures listed { IfOk result (λ turn. (kind : DecidedKind) (term : ℕ) → turn ≡ Ask kind term
-            → StopsAt board.now store.now.words memory.now.board self.old self.new
+            → StopsAt board.now store.now.words (writes_of memory.now self.old.place.side) self.old self.new
             (list_in terms.old words.old memory.now) (list_in terms.new words.new memory.now) kind term) }
         ensures symbolic { OnOk result (IsSymbolic board.now store.now.words terms.new words.new memory.now self.new) }
     {
@@ -390,7 +439,8 @@ impl SymBoard {
         ensures reading { self.new.reading ≡ self.old.reading }
         ensures asked { self.new.asked ≡ self.old.asked }
         ensures grew { OnOk result (Grew terms.old terms.new words.old words.new) }
-        ensures listed { OnOk result (GoesAlong board.now store.now.words memory.now.board self.old self.new
+        ensures listed { OnOk result (GoesAlong board.now store.now.words
+            (writes_of memory.now self.old.place.side) self.old self.new
             (list_in terms.old words.old memory.now) (list_in terms.new words.new memory.now)) }
         ensures symbolic { OnOk result (IsSymbolic board.now store.now.words terms.new words.new memory.now self.new) }
     {
@@ -462,7 +512,7 @@ impl SymBoard {
         ensures events { self.new.events ≡ self.old.events }
         ensures grew { OnOk result (Grew terms.old terms.new words.old words.new) }
         ensures listed { IfOk result (λ turn. (kind : DecidedKind) (term : ℕ) → turn ≡ Ask kind term
-            → StopsAt board.now store.now.words memory.now.board self.old self.new
+            → StopsAt board.now store.now.words (writes_of memory.now self.old.place.side) self.old self.new
             (list_in terms.old words.old memory.now) (list_in terms.new words.new memory.now) kind term) }
         ensures symbolic { OnOk result (IsSymbolic board.now store.now.words terms.new words.new memory.now self.new) }
     {
@@ -470,6 +520,13 @@ impl SymBoard {
         let place = (bits_before(&microword) + 11 - self.known()) as u8;
         let bit = word(alloc, Op::Part(self.next_address(), place, 1), terms, words)?;
         Ok(self.ask(DecidedKind::Next(place), bit))
+    }
+
+    /// Whose side of the memory it reads and writes.
+    fn side(&self) -> Side
+        ensures { result ≡ self.now.place.side }
+    {
+        self.place.side
     }
 
     /// The term of the address register.
@@ -504,6 +561,7 @@ impl SymBoard {
         ensures parts { OnOk result (AreParts board.now terms.new self.new.place.parts) }
         ensures at { OnOk result (self.new.place.at < 2 ^ 12) }
         ensures sp { OnOk result (self.new.place.sp ≤ depth_of board.now) }
+        ensures side { self.new.place.side ≡ self.old.place.side }
         ensures cycle { self.new.place.cycle ≡ self.old.place.cycle }
         ensures inputs { self.new.place.taken ≡ self.old.place.taken }
         ensures source { reading.new.source ≡ reading.old.source }
@@ -563,10 +621,13 @@ impl SymBoard {
             → IsDone board.now store.now.words terms.new words.new memory.old memory.new self.old self.new given x) }
         ensures asked { OnOk result (self.new.asked ≡ None) }
         ensures decided { OnOk result (self.new.place.decided ≡ []) }
+        ensures side { OnOk result (self.new.place.side ≡ self.old.place.side) }
+        ensures line { OnOk result (self.new.place.line ≡ None) }
         ensures cycle { OnOk result (self.new.place.cycle ≡ self.old.place.cycle + 1) }
         ensures inputs { OnOk result (self.new.place.taken ≤ self.old.place.taken + 1) }
         ensures reads { OnOk result (memory.new.reads ≡ memory.old.reads) }
-        ensures machine { OnOk result (memory.new.machine ≡ memory.old.machine) }
+        ensures other { OnOk result (writes_of memory.new (other_side self.old.place.side)
+            ≡ writes_of memory.old (other_side self.old.place.side)) }
         ensures more { OnOk result (ReadsMore memory.old memory.new) }
         ensures grew { OnOk result (Grew terms.old terms.new words.old words.new) }
         ensures workspace { OnOk result (IsWorkspace terms.new words.new memory.new) }
@@ -575,6 +636,7 @@ impl SymBoard {
         ensures symbolic { OnOk result (IsSymbolic board.now store.now.words terms.new words.new memory.new self.new) }
     {
         let microword = self.microword(board, store);
+        let side = self.side();
         let mut reading = self.take_reading();
         let leaving = self.take_leaving();
         let mar = self.mar();
@@ -587,7 +649,7 @@ impl SymBoard {
             terms,
             words,
         )?;
-        write_memory(alloc, microword.memory_write, mar, reading.y, memory)?;
+        write_memory(alloc, microword.memory_write, side, mar, reading.y, memory)?;
         self.show(&microword, reading.source, reading.y)?;
         self.leave_cycle();
         Ok(())
@@ -599,6 +661,7 @@ impl SymBoard {
         ensures { self.new ≡ cycle_left self.old }
     {
         self.place.cycle += 1;
+        self.place.line = None;
         self.place.decided = Path::new();
     }
 
@@ -643,10 +706,11 @@ impl SymBoard {
         requires symbolic { IsSymbolic board.now store.now.words terms.old words.old memory.old self.old }
         ensures turn { IfOk result
             (IsTurn board.now store.now.words terms.new words.new memory.old memory.new self.old self.new) }
-        ensures goes { OnOk result (GoesOn (IsCycleKind self.old.place.cycle self.old.place.taken)
+        ensures goes { OnOk result (GoesOn (IsCycleKind self.old.place.side self.old.place.cycle self.old.place.taken)
             terms.old terms.new words.old words.new memory.old memory.new) }
         ensures reads { OnOk result (length memory.new.reads ≤ length memory.old.reads + reads_to_come self.old) }
-        ensures machine { OnOk result (memory.new.machine ≡ memory.old.machine) }
+        ensures other { OnOk result (writes_of memory.new (other_side self.old.place.side)
+            ≡ writes_of memory.old (other_side self.old.place.side)) }
         ensures all { IfOk result (λ turn. turn ≡ Finished
             → length self.old.place.decided
             ≡ bits_before (microword_of board.now store.now.words self.old.place) + 12) }

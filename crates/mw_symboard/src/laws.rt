@@ -5,9 +5,8 @@ ghost use Rattle.mw_symboard.specs.Laws.{RunsStay, TurnsAreOfTheRun};
 ghost use Rattle.mw_symboard.specs.Nets.{NetsHaveValues};
 ghost use Rattle.mw_symboard.specs.Paths.{PassedGoOn, PassedStay, PathsBegin, PathsGoOn, PathsStay, PathsTakeBits};
 ghost use Rattle.mw_symboard.specs.Paths.{SplitsAreBy};
-ghost use Rattle.mw_symboard.specs.Variables.{BegunHasVariables, CyclesAreThere, CyclesStay, EnvironmentsAreReached};
-ghost use Rattle.mw_symboard.specs.Variables.{EnvironmentsAreThere, EnvironmentsStay, VariablesHaveValues};
-ghost use Rattle.mw_symboard.specs.Variables.{VariablesHaveWidths, VariablesStay};
+ghost use Rattle.mw_symboard.specs.Variables.{CyclesAreThere, CyclesStay, EnvironmentsAreReached, EnvironmentsAreThere};
+ghost use Rattle.mw_symboard.specs.Variables.{EnvironmentsStay, VariablesHaveValues};
 
 /// The law of the start: a board that has done nothing is in each run that begins with its terms.
 pub fn runs_begin()
@@ -22,7 +21,7 @@ pub fn turns_are_of_the_run()
     ensures first { BitsAreFirst }
 {}
 
-/// The law of other calls: a board stays in its run while they make terms, read the memory and write on the machine's
+/// The law of other calls: a board stays in its run while they make terms, read the memory and write on the other
 /// side.
 pub fn runs_stay()
     ensures { RunsStay }
@@ -51,17 +50,13 @@ pub fn paths_are_of_the_run()
     ensures passed { PassedGoOn }
 {}
 
-/// The law of variables: a cycle that has begun has its line and its noise, and they stay. Where those of the finished
-/// cycles are there, there is a number of cycles whose variables are there, and no later ones; then the variables of an
-/// environment have the widths of its lists, and so it stays while only variables of base reads and inputs come. A
-/// variable has the value that the assignment gives its number.
+/// The law of variables: a variable has the value that the assignment gives its number. Of a board on terms there is a
+/// number of cycles beyond those of all its variables; they have the widths of their lists; and so it stays while only
+/// variables of base reads and inputs come.
 pub fn variables_are_there()
-    ensures begun { BegunHasVariables }
-    ensures stay { VariablesStay }
     ensures values { VariablesHaveValues }
     ensures cycles { CyclesAreThere }
-    ensures cycles_stay { CyclesStay }
-    ensures widths { VariablesHaveWidths }
+    ensures stay { CyclesStay }
 {}
 
 /// The law of environments: for every assignment there is an environment without waits that has the values of the

@@ -11,6 +11,7 @@ mod function;
 mod laws;
 mod leaving;
 mod make;
+mod outside;
 mod parts;
 mod path;
 mod progress;

@@ -2,19 +2,13 @@
 ghost use Rattle.std.specs.Prelude.{◌≡◌, ◌⊎◌, List, map, ℕ, ◌+◌, ◌<◌, ◌≤◌, ◌^◌, [], ◌∷◌, ◌++◌, length, slice_index};
 ghost use Rattle.std.specs.Prelude.{true, Some, None, IfOk, OnOk};
 ghost use Rattle.mw_alu.specs.Instruction.{destination_of, source_of};
-ghost use Rattle.mw_board.specs.declared.parts.BoardParts.{BoardParts};
 ghost use Rattle.mw_board.specs.declared.bit.Bit.TheVariants as kinds;
 ghost use Rattle.mw_board.specs.Valid.{IsBit, IsLoad};
 ghost use Rattle.mw_cycle.specs.Boundary.{numbers};
-ghost use Rattle.mw_term.specs.declared.kinds.WordKind.TheVariants.{Line, Noise};
-ghost use Rattle.mw_term.specs.declared.op.Op.TheVariants.{Var};
-ghost use Rattle.mw_term.specs.Table.{Extends, IsTable};
-ghost use Rattle.mw_term.specs.Values.{IsTermOf, Keeps};
 ghost use Rattle.mw_board.specs.Depth.{depth_of};
 ghost use Rattle.mw_cycle.specs.Microword.{IsMicroword};
-ghost use Rattle.mw_symmem.specs.Memory.{Memory, IsOfWidth};
-ghost use Rattle.mw_term.specs.WordList.{ended, list_of, term_of, variable, with_variable};
-ghost use Rattle.mw_symmem.specs.Words.{AreOf};
+ghost use Rattle.mw_symmem.specs.Memory.{IsOfWidth, writes_of};
+ghost use Rattle.mw_term.specs.WordList.{list_of};
 ghost use Rattle.mw_symmem.specs.Workspace.{GoesOn, IsWorkspace, KeepsWrites};
 ghost use Rattle.mw_symboard.specs.Bits.{AreBits, AreSources};
 ghost use Rattle.mw_symboard.specs.Cycle.{AreOperands, IsReading, IsTurned};
@@ -22,7 +16,7 @@ ghost use Rattle.mw_cycle.specs.ReadingWords.{y_term, addends_words, all_read_wo
 ghost use Rattle.mw_cycle.specs.ReadingWords.{is_read, link_reads, load_reads, operands_words, read_words};
 ghost use Rattle.mw_cycle.specs.ReadingWords.{reading_words, sources_words, turned_words};
 ghost use Rattle.mw_symboard.specs.Growth.{Grew};
-ghost use Rattle.mw_symboard.specs.Kinds.{AreInputs, IsCycleKind};
+ghost use Rattle.mw_symboard.specs.Kinds.{HaveWidths, IsCycleKind};
 ghost use Rattle.mw_symboard.specs.Made.{IsAddendR, IsAddendS, IsBitTerm, IsR, IsS, sources_of};
 ghost use Rattle.mw_symboard.specs.Parts.{AreParts};
 ghost use Rattle.mw_symboard.specs.Turns.{AreNoLater};
@@ -36,6 +30,7 @@ ghost use Rattle.mw_symboard.specs.Listed.{ListsFrom, bits_made, operands_in, re
 use crate::bits::{Bits, Sources, same};
 use crate::function::{addend_r, addend_s, f, r, s};
 use crate::make::word;
+use crate::outside::{Variables, line_and_noise};
 use crate::parts::Parts;
 use crate::progress::Progress;
 use crate::source::{from_source, masked};
@@ -44,7 +39,7 @@ use mw_base::NoMemory;
 use mw_board::{Bit, Board, Load};
 use mw_cycle::Microword;
 use mw_symmem::{SymMemory, Words};
-use mw_term::{Op, Term, WordKind, Written};
+use mw_term::{Op, Term, Written};
 use std::alloc::Global;
 
 /// What a cycle has read before its edge.
@@ -318,59 +313,6 @@ fn condition(
     Ok(term)
 }
 
-/// The variables of a cycle's line and noise.
-#[derive(Clone, Copy)]
-struct Variables {
-    line: Term,
-    noise: Term,
-}
-
-/// Makes the variable of the noise of a cycle.
-fn noise_word(
-    alloc: Global,
-    cycle: u32,
-    terms: &mut Written,
-    words: &mut Words,
-) -> Result<Term, NoMemory>
-    requires { term_of words.old (Noise cycle) ≡ None }
-    ensures words { IfOk result (λ term. words.new ≡ words.old ++ variable term (Noise cycle) ∷ []) }
-    ensures made { IfOk result (IsTermOf terms.old terms.new (Var (length words.old + 1) 14)) }
-    ensures of { OnOk result (AreOf terms.old words.old → AreOf terms.new words.new) }
-    ensures listed { IfOk result (Lists (with_variable (Noise cycle) 14) terms.old terms.new words.old words.new) }
-    ensures extends { Extends terms.old terms.new }
-    ensures keeps { Keeps terms.old terms.new }
-    ensures table { IsTable terms.new }
-{
-    words.fresh(alloc, terms, WordKind::Noise(cycle), 14)
-}
-
-/// Makes the variables of the line and the noise of a cycle.
-fn line_and_noise(
-    alloc: Global,
-    cycle: u32,
-    terms: &mut Written,
-    words: &mut Words,
-) -> Result<Variables, NoMemory>
-    requires none { AreNoLater cycle words.old }
-    ensures line { IfOk result (λ v. term_of words.new (Line cycle) ≡ Some v.line) }
-    ensures noise { IfOk result (λ v. term_of words.new (Noise cycle) ≡ Some v.noise) }
-    ensures line_wide { IfOk result (λ v. IsOfWidth terms.new 1 v.line) }
-    ensures noise_wide { IfOk result (λ v. IsOfWidth terms.new 14 v.noise) }
-    ensures listed { IfOk result (λ v. (reads : List Held)
-        → (let line = with_variable (Line cycle) 1 (list_of terms.old.ops words.old reads) in
-        (line.term ≡ v.line)
-        × (with_variable (Noise cycle) 14 line.list ≡ ended v.noise (list_of terms.new.ops words.new reads)))) }
-    ensures goes { OnOk result ((taken : ℕ) (m : Memory) → IsWorkspace terms.old words.old m
-        → GoesOn (IsCycleKind cycle taken) terms.old terms.new words.old words.new m m) }
-    ensures inputs { OnOk result
-        ((board : BoardParts) → AreInputs board terms.old words.old → AreInputs board terms.new words.new) }
-    ensures none { OnOk result (AreNoLater (cycle + 1) words.new) }
-{
-    let line = words.fresh(alloc, terms, WordKind::Line(cycle), 1)?;
-    let noise = noise_word(alloc, cycle, terms, words)?;
-    Ok(Variables { line, noise })
-}
-
 /// The term of a register.
 fn register(parts: &Parts, number: u8) -> Term
     requires { number < length parts.now.regs }
@@ -534,26 +476,29 @@ impl Reading {
         requires workspace { IsWorkspace terms.old words.old memory.old }
         requires parts { AreParts board.now terms.old place.now.parts }
         requires sp { place.now.sp ≤ depth_of board.now }
-        requires inputs { AreInputs board.now terms.old words.old }
-        requires none { AreNoLater place.now.cycle words.old }
+        requires line { (term : ℕ) → place.now.line ≡ Some term → IsOfWidth terms.old 1 term }
+        requires widths { HaveWidths place.now.side board.now terms.old words.old }
+        requires none { AreNoLater place.now.side place.now.cycle words.old }
         ensures is { IfOk result (IsReading board.now microword.now terms.new words.new memory.new place.now) }
         ensures listed { IfOk result (λ reading. (events : List SymEvent)
-            → reading_words board.now microword.now (standing_of place.now memory.old.board events)
+            → reading_words board.now microword.now
+            (standing_of place.now (writes_of memory.old place.now.side) events)
             (list_in terms.old words.old memory.old) ≡ reading_in terms.new words.new memory.new reading) }
-        ensures goes { OnOk result (GoesOn (IsCycleKind place.now.cycle place.now.taken)
+        ensures goes { OnOk result (GoesOn (IsCycleKind place.now.side place.now.cycle place.now.taken)
             terms.old terms.new words.old words.new memory.old memory.new) }
         ensures reads { OnOk result (length memory.new.reads ≤ length memory.old.reads + 1) }
         ensures writes { OnOk result (KeepsWrites memory.old memory.new) }
-        ensures inputs { OnOk result (AreInputs board.now terms.new words.new) }
-        ensures none { OnOk result (AreNoLater (place.now.cycle + 1) words.new) }
+        ensures widths { OnOk result (HaveWidths place.now.side board.now terms.new words.new) }
+        ensures none { OnOk result (AreNoLater place.now.side (place.now.cycle + 1) words.new) }
     {
         let width = board.width().bits();
         let parts = &place.parts;
-        let variables = line_and_noise(alloc, place.cycle, terms, words)?;
+        let variables = line_and_noise(alloc, place.side, place.cycle, place.line, terms, words)?;
         let source = from_source(
             alloc,
             board,
             microword,
+            place.side,
             parts,
             place.taken,
             terms,

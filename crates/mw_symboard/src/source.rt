@@ -4,8 +4,7 @@ ghost use Rattle.mw_board.specs.Valid.{IsMask};
 ghost use Rattle.mw_cycle.specs.Microword.{IsMicroword};
 ghost use Rattle.mw_term.specs.declared.kinds.WordKind.TheVariants.{Input};
 ghost use Rattle.mw_term.specs.Table.{IsWidth};
-ghost use Rattle.mw_term.specs.declared.side.Side.TheVariants as side;
-ghost use Rattle.mw_symmem.specs.Memory.{IsOfWidth, IsRead};
+ghost use Rattle.mw_symmem.specs.Memory.{IsOfWidth, IsRead, writes_of};
 ghost use Rattle.mw_term.specs.WordList.{memory_read_words, term_of, with_input};
 ghost use Rattle.mw_symmem.specs.Workspace.{GoesOn, IsWorkspace, KeepsWrites};
 ghost use Rattle.mw_symboard.specs.Growth.{Grew};
@@ -71,10 +70,11 @@ pub(crate) fn input(
     }
 }
 
-/// The memory word at `mar`.
+/// What a side's memory has at `mar`.
 fn read_source(
     alloc: Global,
     board: &Board,
+    side: Side,
     mar: Term,
     taken: u32,
     terms: &mut Written,
@@ -87,9 +87,9 @@ fn read_source(
     requires wide { IsOfWidth terms.old board.now.address mar }
     requires workspace { IsWorkspace terms.old words.old memory.old }
     requires inputs { AreInputs board.now terms.old words.old }
-    ensures is { IfOk result (IsRead terms.new memory.new side.Board mar) }
+    ensures is { IfOk result (IsRead terms.new memory.new side mar) }
     ensures wide { IfOk result (IsOfWidth terms.new board.now.width) }
-    ensures listed { IfOk result (ListsOver (memory_read_words board.now.width mar memory.old.board)
+    ensures listed { IfOk result (ListsOver (memory_read_words board.now.width mar (writes_of memory.old side))
         terms.old terms.new words.old words.new memory.old memory.new) }
     ensures goes { OnOk result
         (GoesOn (IsSourceKind taken) terms.old terms.new words.old words.new memory.old memory.new) }
@@ -97,7 +97,7 @@ fn read_source(
     ensures writes { OnOk result (KeepsWrites memory.old memory.new) }
     ensures inputs { OnOk result (AreInputs board.now terms.new words.new) }
 {
-    let term = memory.read(alloc, Side::Board, mar, terms, words)?;
+    let term = memory.read(alloc, side, mar, terms, words)?;
     Ok(term)
 }
 
@@ -106,6 +106,7 @@ pub(crate) fn from_source(
     alloc: Global,
     board: &Board,
     microword: &Microword,
+    side: Side,
     parts: &Parts,
     taken: u32,
     terms: &mut Written,
@@ -120,11 +121,11 @@ pub(crate) fn from_source(
     requires parts { AreParts board.now terms.old parts.now }
     requires inputs { AreInputs board.now terms.old words.old }
     ensures is { IfOk result
-        (IsFrom board.now microword.now.word terms.new words.new memory.new parts.now taken microword.now.d.from) }
+        (IsFrom board.now microword.now.word terms.new words.new memory.new side parts.now taken microword.now.d.from) }
     ensures wide { IfOk result (IsOfWidth terms.new board.now.width) }
     ensures listed { IfOk result
-        (ListsOver (source_words board.now microword.now.word parts.now memory.old.board taken microword.now.d.from)
-        terms.old terms.new words.old words.new memory.old memory.new) }
+        (ListsOver (source_words board.now microword.now.word parts.now (writes_of memory.old side) taken
+        microword.now.d.from) terms.old terms.new words.old words.new memory.old memory.new) }
     ensures goes { OnOk result
         (GoesOn (IsSourceKind taken) terms.old terms.new words.old words.new memory.old memory.new) }
     ensures reads { OnOk result (length memory.new.reads ≤ length memory.old.reads + 1) }
@@ -134,7 +135,7 @@ pub(crate) fn from_source(
     let width = board.width().bits();
     match microword.d.from {
         DFrom::Zero => constant(alloc, 0, width, terms),
-        DFrom::Memory => read_source(alloc, board, parts.mar, taken, terms, words, memory),
+        DFrom::Memory => read_source(alloc, board, side, parts.mar, taken, terms, words, memory),
         DFrom::Ir => Ok(parts.ir),
         DFrom::Mar => widened(alloc, parts.mar, board.parts().address, width, terms, words),
         DFrom::Input => input(alloc, board, taken, terms, words, memory),

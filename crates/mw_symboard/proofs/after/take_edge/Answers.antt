@@ -35,6 +35,7 @@ returns-clause-is c =
     let last = c.in_ok-pc.ensures.grew ws in
     let count : c.from.result ≡ c.decided_next-next.result.pc = cc in
     record {
+      side = s.side;
       written = taken.register;
       is_written = written_b_stays (destination_of m.instruction) b m t tnew old.parts old.sp n taken.register
           last.1.extends e.register;

@@ -1,5 +1,6 @@
 use Rattle.std.proofs.Common.{◌≡◌, ◌∙◌, ◌+◌, length, ap, sym}
 use Rattle.mw_term.specs.declared.kinds.WordKind.TheVariants.{Input}
+use Rattle.mw_term.specs.declared.side.Side.TheVariants.{Board}
 use Rattle.mw_cycle.specs.SteadySeries.{Inputs}
 use Rattle.mw_symboard.proofs.Sources.{goes_by_input}
 use Rattle.mw_symboard.proofs.VariableWidths.{variable_found, wide_variable, widths_with}
@@ -31,7 +32,7 @@ returns-clause-inputs c =
     let wide = wide_variable c.args.terms.now c.fresh.new.terms (length c.args.words.now + 1) c.bits.result
     c.in_ok-term.term e.made in
     rw e.words
-    (widths_with c.args.board.now c.args.terms.now c.fresh.new.terms c.args.words.now c.in_ok-term.term Inputs Inputs
+    (widths_with Board c.args.board.now c.args.terms.now c.fresh.new.terms c.args.words.now c.in_ok-term.term Inputs Inputs
     c.args.number e.extends e.keeps c.requires.absent (rw width at wide) c.requires.inputs)
 
 pub returns-clause-listed : goal.returns-clause-listed

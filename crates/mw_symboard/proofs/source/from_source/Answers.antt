@@ -2,6 +2,7 @@ use Rattle.std.proofs.Common.{◌≡◌, ◌<◌, length, slice_index, subst, ar
 use Rattle.std.proofs.lemmas.List.{get_or_read}
 use Rattle.mw_board.specs.declared.bit.DFrom.{DFrom}
 use Rattle.mw_board.specs.Valid.{IsFrom}
+use Rattle.mw_symmem.specs.Memory.{writes_of}
 use Rattle.mw_symboard.proofs.Sources.{constant_ok, goes_ok}
 use Rattle.mw_symboard.proofs.VariableWidths.{inputs_ok}
 use Rattle.mw_symboard.proofs.Widths.{flip_wide, ir_wide, mar_wide}
@@ -100,7 +101,7 @@ returns-in-Zero-clause-listed c =
     c.args.memory.now
     (λ l. ap (λ w. with_constant 0 w l) width
     ∙ sym (ap
-    (λ from. source_words board c.args.microword.now.word c.args.parts.now c.args.memory.now.board c.args.taken from l)
+    (λ from. source_words board c.args.microword.now.word c.args.parts.now (writes_of c.args.memory.now c.args.side) c.args.taken from l)
     c.in-Zero.is)) c.constant.ensures.listed
 
 pub returns-in-Field-clause-listed : goal.returns-in-Field-clause-listed
@@ -114,5 +115,5 @@ returns-in-Field-clause-listed c =
     with_constant (in_field (slice_get board.fields c.in-Field.number) c.args.microword.now.word % 2 ^ board.width) w l)
     width
     ∙ sym (ap
-    (λ from. source_words board c.args.microword.now.word c.args.parts.now c.args.memory.now.board c.args.taken from l)
+    (λ from. source_words board c.args.microword.now.word c.args.parts.now (writes_of c.args.memory.now c.args.side) c.args.taken from l)
     c.in-Field.is)) c.constant-in-Field.ensures.listed

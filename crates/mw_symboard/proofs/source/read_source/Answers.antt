@@ -17,7 +17,7 @@ returns-clause-goes c =
     goes_as_source c.args.taken c.args.terms.now c.read.new.terms c.args.words.now c.read.new.words c.args.memory.now
     c.read.new.self
     (goes_by_base c.args.terms.now c.read.new.terms c.args.words.now c.read.new.words c.args.memory.now c.read.new.self
-    Board c.args.mar e.reads.0 c.in_ok-term.term e.adds e.reads.1 e.memory e.of e.extends e.keeps e.table)
+    c.args.side c.args.mar e.reads.0 c.in_ok-term.term e.adds e.reads.1 e.memory e.of e.extends e.keeps e.table)
 
 pub returns-clause-writes : goal.returns-clause-writes
 returns-clause-writes c =
@@ -27,8 +27,8 @@ returns-clause-writes c =
 pub returns-clause-inputs : goal.returns-clause-inputs
 returns-clause-inputs c =
     let e = c.in_ok-term.ensures in
-    widths_by_read c.args.board.now c.args.terms.now c.read.new.terms c.args.words.now c.read.new.words
+    widths_by_read Board c.args.board.now c.args.terms.now c.read.new.terms c.args.words.now c.read.new.words
     c.args.memory.now c.read.new.self Inputs
     (goes_by_base c.args.terms.now c.read.new.terms c.args.words.now c.read.new.words c.args.memory.now c.read.new.self
-    Board c.args.mar e.reads.0 c.in_ok-term.term e.adds e.reads.1 e.memory e.of e.extends e.keeps e.table)
+    c.args.side c.args.mar e.reads.0 c.in_ok-term.term e.adds e.reads.1 e.memory e.of e.extends e.keeps e.table)
     c.requires.inputs

@@ -3,6 +3,7 @@ use Rattle.mw_base.specs.Words.{num}
 use Rattle.mw_cycle.specs.declared.elements.Element.TheVariants.{R}
 use Rattle.mw_term.specs.declared.decided.DecidedKind.TheVariants.{CounterZero}
 use Rattle.mw_term.specs.declared.op.Op.TheVariants.{Con, Eq}
+use Rattle.mw_symmem.specs.Memory.{writes_of}
 use Rattle.mw_symboard.proofs.Fitting.{fits_eq, wide_equal}
 use Rattle.mw_symboard.proofs.Growing.{grew_then, is_later, wide_later}
 use Rattle.mw_symboard.proofs.Staying.{symbolic_stays, workspace_grown}
@@ -69,7 +70,7 @@ returns-clause-listed c = λ kind term is.
     (let board = c.args.board.now in
     let store = c.args.store.now.words in
     let o = c.args.self.now in
-    let writes = c.args.memory.now.board in
+    let writes = (writes_of c.args.memory.now c.args.self.now.place.side) in
     let reads = c.args.memory.now.reads in
     let r = c.requires.begun.0 in
     let m = microword_of board store o.place in

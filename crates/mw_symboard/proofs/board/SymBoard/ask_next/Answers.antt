@@ -1,5 +1,6 @@
 use Rattle.std.proofs.Common.{◌≡◌, ◌+◌, ◌-◌, length, arith, ap, ◌∙◌, suc, sym}
 use Rattle.mw_term.specs.declared.decided.DecidedKind.TheVariants.{Next}
+use Rattle.mw_symmem.specs.Memory.{writes_of}
 use Rattle.mw_symboard.specs.Cycle.{bits_before}
 use Rattle.mw_symboard.specs.Seen.{microword_of}
 use Rattle.mw_symboard.proofs.Fitting.{fits_part, wide_part}
@@ -65,7 +66,7 @@ returns-clause-listed c = λ kind term is.
     (let board = c.args.board.now in
     let store = c.args.store.now.words in
     let o = c.args.self.now in
-    let writes = c.args.memory.now.board in
+    let writes = (writes_of c.args.memory.now c.args.self.now.place.side) in
     let reads = c.args.memory.now.reads in
     let r = c.requires.begun.0 in
     let leaving = c.requires.leaving.0 in

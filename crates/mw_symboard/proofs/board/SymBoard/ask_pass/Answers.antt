@@ -1,6 +1,7 @@
 use Rattle.std.proofs.Common.{arith, ap, refl, sym, ◌∙◌}
 use Rattle.mw_base.specs.Words.{num}
 use Rattle.mw_term.specs.declared.decided.DecidedKind.TheVariants.{Pass}
+use Rattle.mw_symmem.specs.Memory.{writes_of}
 use Rattle.mw_symboard.proofs.Turning.{asking_keeps, pass_asked}
 use Rattle.mw_symboard.proofs.Going.{pass_stops, pass_goes, asked_one, none_decided, not_leaving, stops_before}
 use Rattle.std.specs.Prelude.{Some}
@@ -37,7 +38,7 @@ returns-clause-listed c = λ kind term is.
     (let board = c.args.board.now in
     let store = c.args.store.now.words in
     let o = c.args.self.now in
-    let writes = c.args.memory.now.board in
+    let writes = (writes_of c.args.memory.now c.args.self.now.place.side) in
     let r = c.requires.begun.0 in
     let m = microword_of board store o.place in
     let l = list_in c.args.terms.now c.args.words.now c.args.memory.now in

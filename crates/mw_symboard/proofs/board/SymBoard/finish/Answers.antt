@@ -2,16 +2,18 @@ use Rattle.std.proofs.Common.{◌≡◌, arith, ◌+◌, [], ◌∷◌, ◌++◌
 use Rattle.std.specs.Prelude.{None, if◌then◌else◌}
 use Rattle.mw_term.specs.MemoryRead.{held, Held}
 use Rattle.mw_cycle.specs.declared.elements.Element.TheVariants.{Mar}
+use Rattle.mw_term.specs.declared.side.Side.{Side}
 use Rattle.mw_term.specs.declared.word.Word.{Word}
+use Rattle.mw_symmem.specs.Memory.{writes_of}
 use Rattle.mw_symmem.proofs.Later.{goes_by_growth}
-use Rattle.mw_symboard.specs.Kinds.{AreInputs}
+use Rattle.mw_symboard.specs.Kinds.{HaveWidths}
 use Rattle.mw_symboard.specs.Seen.{microword_of, Progress}
 use Rattle.mw_symboard.specs.Turns.{AreNoLater, Symbolic, cycle_left}
 use Rattle.mw_symboard.proofs.Growing.{wide_later}
-use Rattle.mw_symboard.proofs.Staying.{events_stay, none_stay, inputs_stay, workspace_grown}
+use Rattle.mw_symboard.proofs.Staying.{events_stay, none_stay, widths_stay, workspace_grown}
 use Rattle.mw_symboard.proofs.Turning.{read_known}
-use Rattle.mw_symboard.proofs.Finishing.{at_the_end, ended_done, ended_symbolic, shown_keeps, taken_few, written_board}
-use Rattle.mw_symboard.proofs.Finishing.{written_machine, written_workspace, written_reads}
+use Rattle.mw_symboard.proofs.Finishing.{at_the_end, ended_done, ended_symbolic, shown_keeps, taken_few, written_other}
+use Rattle.mw_symboard.proofs.Finishing.{written_own, written_reads, written_workspace}
 use Rattle.mw_cycle.specs.BoardTerms.{Standing}
 use Rattle.mw_cycle.specs.CycleWords.{done}
 use Rattle.mw_cycle.specs.EdgeWords.{edge_words, with_write_if}
@@ -36,7 +38,7 @@ returns-clause-workspace c =
     c.take_reading-reading.result c.take_reading-reading.ensures.taken c.requires.symbolic.reading).0 in
     rw (c.in_ok-write_memory.ensures, c.mar-mar.ensures, left, c.edge.ensures.y)
     (written_workspace c.microword-microword.result.memory_write c.edge.new.terms c.edge.new.words c.args.memory.now
-    o.place.parts.mar c.take_reading-reading.result.y
+    c.side-side.result o.place.parts.mar c.take_reading-reading.result.y
     (rw c.requires.address (wide_later c.args.terms.now c.edge.new.terms c.args.words.now c.edge.new.words board.address
     o.place.parts.mar grew (c.requires.symbolic.parts.wide Mar tt)))
     (rw c.requires.word (wide_later c.args.terms.now c.edge.new.terms c.args.words.now c.edge.new.words board.width
@@ -44,10 +46,22 @@ returns-clause-workspace c =
     (workspace_grown c.args.terms.now c.edge.new.terms c.args.words.now c.edge.new.words c.args.memory.now
     c.requires.workspace grew))
 
-pub returns-clause-machine : goal.returns-clause-machine
-returns-clause-machine c =
-    rw c.in_ok-write_memory.ensures (written_machine c.microword-microword.result.memory_write c.args.memory.now
-    c.mar-mar.result c.edge.new.reading.y)
+pub returns-clause-other : goal.returns-clause-other
+returns-clause-other c =
+    let own = c.args.self.now.place.side in
+    rw (c.in_ok-write_memory.ensures, c.side-side.ensures)
+    (written_other c.microword-microword.result.memory_write c.args.memory.now own c.mar-mar.result
+    c.edge.new.reading.y)
+
+pub returns-clause-side : goal.returns-clause-side
+returns-clause-side c =
+    let left : c.take_leaving-leaving.new.self ≡ record c.args.self.now { reading = None; leaving = None } =
+    c.take_leaving-leaving.ensures.new
+    ∙ ap (λ (s : Symbolic). record s { leaving = None }) c.take_reading-reading.ensures.new in
+    let keeps = shown_keeps c.microword-microword.result.d.from c.microword-microword.result.out
+    c.edge.new.reading.source c.edge.new.reading.y c.edge.new.self in
+    rw (c.leave_cycle.ensures, c.in_ok-show.ensures.shown)
+    (keeps.side ∙ c.edge.ensures.side ∙ ap (λ (s : Symbolic). s.place.side) left)
 
 pub returns-clause-cycle : goal.returns-clause-cycle
 returns-clause-cycle c =
@@ -92,20 +106,23 @@ returns-clause-symbolic c =
     c.take_reading-reading.ensures.taken c.requires.symbolic.reading in
     let cycle : e.place.cycle ≡ o.place.cycle = c.edge.ensures.cycle ∙ ap (λ (s : Symbolic). s.place.cycle) left in
     let events : e.events ≡ o.events = c.edge.ensures.events ∙ ap (λ (s : Symbolic). s.events) left in
-    let inputs : AreInputs board tnew wnew =
-    subst (λ (ws : List Word). AreInputs board tnew ws) (sym grew.1.words)
-    (inputs_stay board told tnew wold grew.0 later c.requires.symbolic.inputs) in
-    let none : AreNoLater (o.place.cycle + 1) wnew =
-    subst (λ (ws : List Word). AreNoLater (o.place.cycle + 1) ws) (sym grew.1.words)
-    (none_stay (o.place.cycle + 1) wold grew.0 known.1) in
+    let same : e.place.side ≡ o.place.side = c.edge.ensures.side ∙ ap (λ (s : Symbolic). s.place.side) left in
+    let widths : HaveWidths o.place.side board tnew wnew =
+    subst (λ (ws : List Word). HaveWidths o.place.side board tnew ws) (sym grew.1.words)
+    (widths_stay o.place.side board told tnew wold grew.0 later c.requires.symbolic.widths) in
+    let none : AreNoLater o.place.side (o.place.cycle + 1) wnew =
+    subst (λ (ws : List Word). AreNoLater o.place.side (o.place.cycle + 1) ws) (sym grew.1.words)
+    (none_stay o.place.side (o.place.cycle + 1) wold grew.0 known.1) in
     rw (c.leave_cycle.ensures, c.in_ok-show.ensures.shown)
     (ended_symbolic board c.args.store.now.words tnew wnew c.write_memory.new.memory c.microword-microword.result.d.from
     c.microword-microword.result.out c.edge.new.reading.source c.edge.new.reading.y e c.in_ok-edge.ensures.at
-    c.in_ok-edge.ensures.sp c.in_ok-edge.ensures.parts inputs
+    c.in_ok-edge.ensures.sp c.in_ok-edge.ensures.parts
+    (subst (λ (side : Side). HaveWidths side board tnew wnew) (sym same) widths)
     (rw events (events_stay board told tnew o.events later c.requires.symbolic.events))
     (rw c.edge.ensures.source (wide_later told tnew wold wnew board.width r.source grew known.0.source_wide))
     (rw c.edge.ensures.y (wide_later told tnew wold wnew board.width r.y grew known.0.y_wide))
-    (rw cycle none)
+    (subst (λ (side : Side). AreNoLater side (e.place.cycle + 1) wnew) (sym same)
+    (subst (λ k. AreNoLater o.place.side (k + 1) wnew) (sym cycle) none))
     (c.edge.ensures.reading ∙ ap (λ (s : Symbolic). s.reading) left)
     (c.edge.ensures.leaving ∙ ap (λ (s : Symbolic). s.leaving) left))
 
@@ -137,11 +154,11 @@ returns-clause-done c = λ given x seen.
     let cycle : e.place.cycle ≡ o.place.cycle = c.edge.ensures.cycle ∙ ap (λ (s : Symbolic). s.place.cycle) left in
     let taken : e.place.taken ≡ o.place.taken = c.edge.ensures.inputs ∙ ap (λ (s : Symbolic). s.place.taken) left in
     let events : e.events ≡ o.events = c.edge.ensures.events ∙ ap (λ (s : Symbolic). s.events) left in
-    let wrote : c.write_memory.new.memory.board
+    let wrote : writes_of c.write_memory.new.memory o.place.side
     ≡ (if (microword_of board store o.place).memory_write
-    then m.board ++ held o.place.parts.mar r.y ∷ [] else m.board) =
-    rw (c.in_ok-write_memory.ensures, exact, c.mar-mar.ensures, left, c.edge.ensures.y)
-    (written_board (microword_of board store o.place).memory_write m o.place.parts.mar r.y) in
+    then writes_of m o.place.side ++ held o.place.parts.mar r.y ∷ [] else writes_of m o.place.side) =
+    rw (c.in_ok-write_memory.ensures, exact, c.side-side.ensures, c.mar-mar.ensures, left, c.edge.ensures.y)
+    (written_own (microword_of board store o.place).memory_write m o.place.side o.place.parts.mar r.y) in
     rw (c.leave_cycle.ensures, c.in_ok-show.ensures.shown, exact, c.edge.ensures.source, c.edge.ensures.y)
     (ended_done board store tnew wnew m c.write_memory.new.memory o e r l at_end cycle taken events wrote given x seen))
 
@@ -151,7 +168,8 @@ returns-clause-listed c =
     let store = c.args.store.now.words in
     let o = c.args.self.now in
     let memory = c.args.memory.now in
-    let writes = memory.board in
+    let own = o.place.side in
+    let writes = writes_of memory own in
     let e = c.edge.new.self in
     let r = c.take_reading-reading.result in
     let l = c.take_leaving-leaving.result in
@@ -170,6 +188,7 @@ returns-clause-listed c =
     sym (ap (λ (x : Symbolic). x.leaving) c.take_reading-reading.ensures.new) ∙ c.take_leaving-leaving.ensures.taken in
     let cycle : e.place.cycle ≡ o.place.cycle = c.edge.ensures.cycle ∙ ap (λ (x : Symbolic). x.place.cycle) left in
     let taken : e.place.taken ≡ o.place.taken = c.edge.ensures.inputs ∙ ap (λ (x : Symbolic). x.place.taken) left in
+    let same : e.place.side ≡ own = c.edge.ensures.side ∙ ap (λ (x : Symbolic). x.place.side) left in
     let events : e.events ≡ o.events = c.edge.ensures.events ∙ ap (λ (x : Symbolic). x.events) left in
     let edge = rw exact at c.in_ok-edge.ensures.is in
     let at : e.place.at ≡ number_in o.place.decided (bits_before m) 12 =
@@ -178,12 +197,13 @@ returns-clause-listed c =
     (leaving_of l) (effect_by m p.decided) e.place.at l0
     ≡ stands (list_of tnew.ops wnew memory.reads) (standing_after m p e.place (reading_of r) writes o.events)) place
     (rw exact at (c.in_ok-edge.ensures.listed memory.reads writes o.events)) in
-    let wrote : mnew.board ≡ with_write_if m.memory_write o.place.parts.mar r.y writes =
-    rw (c.in_ok-write_memory.ensures, exact, c.mar-mar.ensures, left, c.edge.ensures.y)
-    (writes_after m.memory_write memory o.place.parts.mar r.y) in
+    let wrote : writes_of mnew own ≡ with_write_if m.memory_write o.place.parts.mar r.y writes =
+    rw (c.in_ok-write_memory.ensures, exact, c.side-side.ensures, c.mar-mar.ensures, left, c.edge.ensures.y)
+    (writes_after m.memory_write memory own o.place.parts.mar r.y) in
     let read : mnew.reads ≡ memory.reads =
     rw c.in_ok-write_memory.ensures
-    (written_reads c.microword-microword.result.memory_write memory c.mar-mar.result c.edge.new.reading.y) in
+    (written_reads c.microword-microword.result.memory_write memory c.side-side.result c.mar-mar.result
+    c.edge.new.reading.y) in
     let ended : c.leave_cycle.new.self
     ≡ cycle_left (with_shown m.d.from m.out c.edge.new.reading.source c.edge.new.reading.y e) =
     c.leave_cycle.ensures ∙ ap cycle_left (rw exact at c.in_ok-show.ensures.shown
@@ -196,9 +216,9 @@ returns-clause-listed c =
           (standing_after m o.place e.place (reading_of r) writes o.events)) e.place.at c.requires.all at words bits
           ∙ ap (λ (x : Standing). done bits (stands (list_of tnew.ops wnew memory.reads) x))
           (left_cycle m c.edge.new.reading.source c.edge.new.reading.y o e
-          (reading_of r) writes mnew.board cycle taken events c.edge.ensures.source c.edge.ensures.y wrote
-          ∙ sym (ap (λ (x : Symbolic). standing_in x mnew.board) ended))
+          (reading_of r) writes (writes_of mnew own) same cycle taken events c.edge.ensures.source c.edge.ensures.y wrote
+          ∙ sym (ap (λ (x : Symbolic). standing_in x (writes_of mnew own)) ended))
           ∙ ap (λ (hs : List Held).
-          done bits (stands (list_of tnew.ops wnew hs) (standing_in c.leave_cycle.new.self mnew.board))) (sym read));
+          done bits (stands (list_of tnew.ops wnew hs) (standing_in c.leave_cycle.new.self (writes_of mnew own)))) (sym read));
       before = ap (λ (x : Symbolic). x.reading) ended ∙ c.edge.ensures.reading ∙ ap (λ (x : Symbolic). x.reading) left;
     }

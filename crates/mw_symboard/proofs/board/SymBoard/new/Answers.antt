@@ -1,10 +1,5 @@
-use Rattle.std.proofs.Common.{refl, rules}
-use Rattle.mw_symboard.proofs.Begun.{begun_symbolic, parts_of_elements}
 use Rattle.mw_symboard.proofs.board.SymBoard.new.Goals as goal
 
 pub returns-clause-symbolic : goal.returns-clause-symbolic
-returns-clause-symbolic c = λ store t words m at sp elements widths none.
-    begun_symbolic c.args.board.now store t words m _ at sp
-    (parts_of_elements c.args.board.now t c.args.elements.now _ elements c.in_ok-new.ensures.exact
-    c.in_ok-new.ensures.regs c.in_ok-new.ensures.flips c.in_ok-new.ensures.stack)
-    widths (search rules) (search rules) refl refl none
+returns-clause-symbolic c = λ store t words m at sp are widths none.
+    c.in_ok-begun.ensures.symbolic store t words m at sp are (λ term is. absurd cc) widths none

@@ -1,3 +1,4 @@
+use Rattle.mw_symmem.specs.Memory.{writes_of}
 use Rattle.mw_symboard.proofs.Staying.{symbolic_stays}
 use Rattle.mw_symboard.proofs.Turning.{leaving_keeps}
 use Rattle.std.proofs.Common.{ap, ap₂, sym, ◌∙◌, arith}
@@ -26,7 +27,7 @@ returns-clause-listed c = λ bits.
     (let board = c.args.board.now in
     let store = c.args.store.now.words in
     let o = c.args.self.now in
-    let writes = c.args.memory.now.board in
+    let writes = (writes_of c.args.memory.now c.args.self.now.place.side) in
     let r = c.requires.begun.0 in
     let leaving = c.in_ok-leaving.leaving in
     let m = microword_of board store o.place in

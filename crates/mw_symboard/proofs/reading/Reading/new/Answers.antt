@@ -1,28 +1,36 @@
 use Rattle.std.proofs.Common.{◌≡◌, ℕ, ◌+◌, Some, slice_index, ap, sym, subst, ◌∙◌, List}
 use Rattle.mw_alu.specs.Instruction.{destination_of}
-use Rattle.mw_term.specs.declared.kinds.WordKind.TheVariants.{Line, Noise}
-use Rattle.mw_symmem.specs.Memory.{IsOfWidth}
+use Rattle.mw_symmem.specs.Memory.{IsOfWidth, writes_of}
 use Rattle.mw_term.specs.WordList.{term_of, ended, list_of, with_variable}
 use Rattle.mw_symmem.specs.Workspace.{GoesOn}
-use Rattle.mw_symboard.specs.Kinds.{IsCycleKind, IsSourceKind}
+use Rattle.mw_symboard.specs.Kinds.{HaveWidths, IsCycleKind, IsSourceKind}
 use Rattle.mw_symboard.specs.Made.{IsFrom, IsMasked, sources_of}
 use Rattle.mw_symboard.specs.Parts.{AreParts}
-use Rattle.mw_symboard.specs.Seen.{Progress}
+use Rattle.mw_symboard.specs.Seen.{Progress, line_term}
 use Rattle.mw_symboard.specs.Turns.{AreNoLater}
 use Rattle.mw_symboard.proofs.Read.{goes_on, grew_four, parts_grew, parts_later, reading_is, y_wide}
 use Rattle.mw_symboard.proofs.Growing.{grew_then, wide_later}
 use Rattle.mw_symboard.proofs.Standing.{parts_stay}
 use Rattle.mw_symboard.proofs.VariableWidths.{widths_grew}
-use Rattle.mw_symboard.proofs.Variables.{grew_none_later, source_none_later}
+use Rattle.mw_symboard.proofs.Variables.{grew_none_later, source_none_later, source_widths}
 use Rattle.mw_symboard.proofs.Widths.{register_wide}
 use Rattle.mw_term.specs.declared.word.Word.{Word}
 use Rattle.mw_term.specs.MemoryRead.{Held}
 use Rattle.mw_term.specs.Table.{Table}
-use Rattle.mw_cycle.specs.ReadingWords.{masked_words, source_words}
+use Rattle.mw_cycle.specs.ReadingWords.{line_words, masked_words, source_words}
 use Rattle.mw_symboard.specs.Listed.{standing_of}
 use Rattle.mw_symboard.proofs.Listing.{reading_are}
-use Rattle.mw_cycle.specs.SteadySeries.{Inputs}
+use Rattle.mw_cycle.specs.SteadySeries.{Inputs, Noise, kind_of}
 use Rattle.mw_symboard.proofs.reading.Reading.new.Goals as goal
+
+pub line_and_noise-requires-clause-none : goal.line_and_noise-requires-clause-none
+line_and_noise-requires-clause-none c =
+    subst (λ (q : Progress). AreNoLater q.side q.cycle c.args.words.now) (sym c.place.view_is) c.requires.none
+
+pub line_and_noise-requires-clause-wide : goal.line_and_noise-requires-clause-wide
+line_and_noise-requires-clause-wide c =
+    subst (λ (q : Progress). (term : ℕ) → q.line ≡ Some term → IsOfWidth c.args.terms.now 1 term)
+    (sym c.place.view_is) c.requires.line
 
 pub from_source-requires-clause-workspace : goal.from_source-requires-clause-workspace
 from_source-requires-clause-workspace c =
@@ -38,7 +46,10 @@ from_source-requires-clause-parts c =
     (subst (λ (q : Progress). AreParts b t0 q.parts) (sym c.place.view_is) c.requires.parts)
 
 pub from_source-requires-clause-inputs : goal.from_source-requires-clause-inputs
-from_source-requires-clause-inputs c = c.in_ok-variables.ensures.inputs c.args.board.now c.requires.inputs
+from_source-requires-clause-inputs c =
+    c.in_ok-variables.ensures.widths c.args.board.now
+    (subst (λ (q : Progress). HaveWidths q.side c.args.board.now c.args.terms.now c.args.words.now)
+    (sym c.place.view_is) c.requires.widths) Inputs
 
 pub make_sources-requires-clause-parts : goal.make_sources-requires-clause-parts
 make_sources-requires-clause-parts c =
@@ -115,15 +126,16 @@ returns-clause-is c =
     let n = c.in_ok-sources.sources in
     let a = slice_index p.parts.regs m.a_address in
     let width : c.bits-width.result ≡ b.width = cc in
-    let goes = subst (λ (q : Progress). GoesOn (IsCycleKind q.cycle q.taken) t0 t1 w0 w1 m0 m0) c.place.view_is
+    let goes = subst (λ (q : Progress). GoesOn (IsCycleKind q.side q.cycle q.taken) t0 t1 w0 w1 m0 m0) c.place.view_is
     (e1.goes c.place.inside.taken m0 c.requires.workspace) in
     let taken = subst (λ (q : Progress). GoesOn (IsSourceKind q.taken) t1 t2 w1 w2 m0 m2) c.place.view_is e2.goes in
     let first = parts_stay b t0 t1 p.parts goes.later.extends goes.later.keeps c.requires.parts in
     let parts = parts_stay b t1 t2 p.parts taken.later.extends taken.later.keeps first in
     let all = grew_four t2 t3 t4 t5 t6 w2 w3 w4 w5 w6 e3.grew e4.grew e5.grew e6.grew in
     let late = grew_then t4 t5 t6 w4 w5 w6 e5.grew e6.grew in
-    let line_is = subst (λ (q : Progress). term_of w1 (Line q.cycle) ≡ Some line) c.place.view_is e1.line in
-    let noise_is = subst (λ (q : Progress). term_of w1 (Noise q.cycle) ≡ Some noise) c.place.view_is e1.noise in
+    let line_is = subst (λ (q : Progress). line_term w1 q ≡ Some line) c.place.view_is e1.line in
+    let noise_is = subst (λ (q : Progress). term_of w1 (kind_of q.side Noise q.cycle) ≡ Some noise) c.place.view_is
+    e1.noise in
     let a_wide = wide_later t2 t6 w2 w6 b.width a all
     (register_wide b t2 p.parts m.a_address parts c.requires.microword.a_address) in
     let f_wide = wide_later t4 t6 w4 w6 b.width n.f late e4.are.sources.f in
@@ -131,7 +143,7 @@ returns-clause-is c =
     e6.is.0 (line_is ∙ ap (λ (x : ℕ). Some x) (sym e4.line))
     (noise_is ∙ ap (λ (x : ℕ). Some x) (sym e4.noise))
     parts
-    (subst (λ (q : Progress). IsFrom b m.word t2 w2 m2 q.parts q.taken m.d.from source) c.place.view_is e2.is)
+    (subst (λ (q : Progress). IsFrom b m.word t2 w2 m2 q.side q.parts q.taken m.d.from source) c.place.view_is e2.is)
     e2.wide
     (subst (λ (k : ℕ). IsMasked t3 k m.d.mask source d) width e3.is)
     (subst (λ (k : ℕ). IsOfWidth t3 k d) width e3.wide)
@@ -150,7 +162,7 @@ returns-clause-goes c =
     let w2 = c.from_source.new.words in
     let m0 = c.args.memory.now in
     let m2 = c.from_source.new.memory in
-    let goes = subst (λ (q : Progress). GoesOn (IsCycleKind q.cycle q.taken) t0 t1 w0 w1 m0 m0) c.place.view_is
+    let goes = subst (λ (q : Progress). GoesOn (IsCycleKind q.side q.cycle q.taken) t0 t1 w0 w1 m0 m0) c.place.view_is
     (c.in_ok-variables.ensures.goes c.place.inside.taken m0 c.requires.workspace) in
     let taken = subst (λ (q : Progress). GoesOn (IsSourceKind q.taken) t1 t2 w1 w2 m0 m2) c.place.view_is
     c.in_ok-source.ensures.goes in
@@ -159,8 +171,9 @@ returns-clause-goes c =
     c.make_bits.new.words c.condition.new.words m0 m2 goes taken c.in_ok-d.ensures.grew c.in_ok-sources.ensures.grew
     c.in_ok-make_bits.ensures.grew c.in_ok-condition.ensures.grew
 
-pub returns-clause-inputs : goal.returns-clause-inputs
-returns-clause-inputs c =
+pub returns-clause-widths : goal.returns-clause-widths
+returns-clause-widths c =
+    let side = c.args.place.now.side in
     let t2 = c.from_source.new.terms in
     let t6 = c.condition.new.terms in
     let w2 = c.from_source.new.words in
@@ -168,7 +181,14 @@ returns-clause-inputs c =
     let all = grew_four t2 c.masked.new.terms c.make_sources.new.terms c.make_bits.new.terms t6 w2 c.masked.new.words
     c.make_sources.new.words c.make_bits.new.words w6 c.in_ok-d.ensures.grew c.in_ok-sources.ensures.grew
     c.in_ok-make_bits.ensures.grew c.in_ok-condition.ensures.grew in
-    widths_grew c.args.board.now t2 t6 w2 w6 Inputs c.in_ok-source.ensures.inputs all
+    let read = source_widths side c.args.board.now c.place.inside.taken c.line_and_noise.new.terms t2
+    c.line_and_noise.new.words w2 c.args.memory.now c.from_source.new.memory c.in_ok-source.ensures.goes
+    c.in_ok-source.ensures.inputs (subst (λ (q : Progress). HaveWidths q.side c.args.board.now
+    c.line_and_noise.new.terms c.line_and_noise.new.words) c.place.view_is
+    (c.in_ok-variables.ensures.widths c.args.board.now
+    (subst (λ (q : Progress). HaveWidths q.side c.args.board.now c.args.terms.now c.args.words.now)
+    (sym c.place.view_is) c.requires.widths))) in
+    λ series. widths_grew side c.args.board.now t2 t6 w2 w6 series (read series) all
 
 pub returns-clause-none : goal.returns-clause-none
 returns-clause-none c =
@@ -182,30 +202,31 @@ returns-clause-none c =
     c.in_ok-make_bits.ensures.grew c.in_ok-condition.ensures.grew in
     let goes = c.in_ok-source.ensures.goes in
     let cycle = c.args.place.now.cycle in
-    let begun = subst (λ (q : Progress). AreNoLater (q.cycle + 1) w1) c.place.view_is c.in_ok-variables.ensures.none in
-    grew_none_later (cycle + 1) t2 t6 w2 w6 all
-    (source_none_later (cycle + 1) c.place.inside.taken w1 w2 goes.more goes.words goes.kinds begun)
+    let side = c.args.place.now.side in
+    grew_none_later side (cycle + 1) t2 t6 w2 w6 all
+    (source_none_later side (cycle + 1) c.place.inside.taken w1 w2 goes.more goes.words goes.kinds
+    (subst (λ (q : Progress). AreNoLater q.side (q.cycle + 1) w1) c.place.view_is c.in_ok-variables.ensures.none))
 
 pub returns-clause-listed : goal.returns-clause-listed
 returns-clause-listed c = λ events.
     (let board = c.args.board.now in
     let m = c.args.microword.now in
     let p = c.args.place.now in
-    let s = standing_of p c.args.memory.now.board events in
+    let s = standing_of p (writes_of c.args.memory.now p.side) events in
     let before = c.args.memory.now.reads in
     let reads = c.from_source.new.memory.reads in
     let parts = ap (λ (x : Progress). x.parts) c.place.view_is in
-    let cycle = ap (λ (x : Progress). x.cycle) c.place.view_is in
+    let side = ap (λ (x : Progress). x.side) c.place.view_is in
     let taken = ap (λ (x : Progress). x.taken) c.place.view_is in
     let width : c.bits-width.result ≡ board.width = c.bits-width.ensures.exact ∙ c.width.ensures.exact in
     let list = λ (t : Table) (words : List Word) (reads : List Held). list_of t.ops words reads in
     let l0 = list c.args.terms.now c.args.words.now before in
     let l1 = list c.line_and_noise.new.terms c.line_and_noise.new.words before in
     let l2 = list c.from_source.new.terms c.from_source.new.words reads in
-    let variables = subst (λ k. (let line = with_variable (Line k) 1 l0 in
+    let variables = subst (λ (q : Progress). (let line = line_words q.side q.cycle q.line l0 in
     (line.term ≡ c.in_ok-variables.variables.line)
-    × (with_variable (Noise k) 14 line.list ≡ ended c.in_ok-variables.variables.noise l1))) cycle
-    (c.in_ok-variables.ensures.listed before) in
+    × (with_variable (kind_of q.side Noise q.cycle) 14 line.list ≡ ended c.in_ok-variables.variables.noise l1)))
+    c.place.view_is (c.in_ok-variables.ensures.listed before) in
     reading_are board m s l0 l1 l2 (list c.masked.new.terms c.masked.new.words reads)
     (list c.make_sources.new.terms c.make_sources.new.words reads)
     (list c.make_bits.new.terms c.make_bits.new.words reads) (list c.condition.new.terms c.condition.new.words reads)
@@ -213,6 +234,8 @@ returns-clause-listed c = λ events.
     c.in_ok-source.source c.in_ok-d.d c.y-y.result c.in_ok-condition.condition (sources_of c.in_ok-sources.sources)
     c.make_sources.new.bits c.make_bits.new.bits c.condition.new.bits variables.0 variables.1
     (c.in_ok-source.ensures.listed
+    ∙ ap (λ x. source_words board m.word c.place.inside.parts (writes_of c.args.memory.now x) c.place.inside.taken
+    m.d.from l1) side
     ∙ ap (λ x. source_words board m.word x s.writes c.place.inside.taken m.d.from l1) parts
     ∙ ap (λ x. source_words board m.word p.parts s.writes x m.d.from l1) taken)
     (c.in_ok-d.ensures.listed reads ∙ ap (λ w. masked_words w m.d.mask c.in_ok-source.source l2) width)
