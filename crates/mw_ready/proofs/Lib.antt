@@ -1,7 +1,9 @@
 pub mod Alike
 pub mod Begins
+pub mod CaseLaws
 pub mod Cases
 pub mod Certifying
+pub mod DifferenceLaws
 pub mod Differences
 pub mod OnLiterals
 pub mod Steps

@@ -10,12 +10,10 @@ use Rattle.mw_rel.specs.Job.{Job}
 use Rattle.mw_rel.specs.SteadyLaws.{NoneDiffers as SteadyNoneDiffers}
 use Rattle.mw_rel.specs.InRelation.{InRelation, pair_of}
 use Rattle.mw_rel.specs.Relation.{Boundary}
-use Rattle.mw_rel.specs.Start.{addresses_of}
 use Rattle.mw_rel.specs.SteadyStart.{Start as SteadyStart, IsStart as IsSteadyStart}
 use Rattle.mw_rel.specs.declared.difference.Difference.{Difference}
 use Rattle.mw_rel.proofs.Law as relations
-use Rattle.mw_cycle.specs.Boundary.{first_segment}
-use Rattle.mw_rel.specs.Certified.{board_run, at_cycle}
+use Rattle.mw_rel.specs.Certified.{board_run}
 use Rattle.mw_rel.specs.Differs.{DiffersAt, segment_of, start_after}
 use Rattle.mw_cycle.specs.Environment.{IsEnvironment}
 use Rattle.mw_cycle.specs.Run.{BoardRun}
@@ -79,12 +77,12 @@ steps_without job start step difference
     (steps_without job (start_after job start run boundary) before difference rest))
 
 -- a start's segment that is, without its clocks, a run
-record IsSegment (job : Job) (start : Start) (run : SteadyRun) : Type 0 where
-  ran : BoardRun
-  segment : segment_of job start ≡ Some ran
-  same : but_clocks ran ≡ run
+pub record IsSegment (job : Job) (start : Start) (run : SteadyRun) : Type 0 where
+  pub ran : BoardRun
+  pub segment : segment_of job start ≡ Some ran
+  pub same : but_clocks ran ≡ run
 
-segment_with : (job : Job) (start : Start) (run : SteadyRun) (segment : Option BoardRun)
+pub segment_with : (job : Job) (start : Start) (run : SteadyRun) (segment : Option BoardRun)
     → segment_of job start ≡ segment → option_map but_clocks segment ≡ Some run → IsSegment job start run
 segment_with job start run None is same = cc
 segment_with job start run (Some ran) is same =
@@ -132,7 +130,7 @@ none_with job none start difference differs =
     none (thinned_start job start) difference
     ((starts_differ_as_thinned job start difference differs.begins).0 differs)
 
-none_without : (job : Job) → NoneDiffers job → SteadyNoneDiffers job
+pub none_without : (job : Job) → NoneDiffers job → SteadyNoneDiffers job
 none_without job none start difference differs =
     let one = starts_without_waits_are_starts job start differs.begins in
     none (always_ready start) difference

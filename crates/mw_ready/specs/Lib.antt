@@ -1,3 +1,5 @@
+pub mod CaseLaws
+pub mod DifferenceLaws
 pub mod Examples
 pub mod StartLaws
 pub mod Thinned

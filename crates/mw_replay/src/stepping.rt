@@ -3,11 +3,12 @@ ghost use Rattle.std.specs.Prelude.{◌≡◌, ◌+◌, ◌<◌, ◌≤◌, ◌^
 ghost use Rattle.std.specs.Prelude.{vec_capacity, vec_len};
 ghost use Rattle.mw_cycle.specs.declared.environment.Clock.{Clock as ClockOf};
 ghost use Rattle.mw_cycle.specs.Environment.{IsEnvironment, at_start, rest_at};
+ghost use Rattle.mw_cycle.specs.Run.{BoardRun, further};
 ghost use Rattle.mw_cycle.specs.State as boards;
 ghost use Rattle.mw_macro.specs.Counts.{most_events};
 ghost use Rattle.mw_macro.specs.DescribedStep.{AreInputs, step_of};
 ghost use Rattle.mw_macro.specs.State as machines;
-ghost use Rattle.mw_rel.specs.Differs.{difference_of, shown_by};
+ghost use Rattle.mw_rel.specs.Differs.{difference_of, segment_of, shown_by};
 ghost use Rattle.mw_rel.specs.Free.{numbered};
 ghost use Rattle.mw_rel.specs.declared.difference.Difference.TheVariants.{Late};
 ghost use Rattle.mw_rel.specs.InRelation.{BothFit, pair_of};
@@ -232,6 +233,10 @@ fn advance<A: Datapath>(part: &A, job: &Job, stand: &mut Stand) -> Option<Differ
     ensures shown { result ≡ difference_of (job_of job.now) (next_start (job_of job.now) (replay_of stand.old)) }
     ensures follows { result ≡ None → Follows (job_of job.now) (next_start (job_of job.now) (replay_of stand.old))
         (next_start (job_of job.now) (replay_of stand.new)) }
+    ensures place { result ≡ None → (run : BoardRun)
+        × (segment_of (job_of job.now) (next_start (job_of job.now) (replay_of stand.old)) ≡ Some run)
+        × (stand.new.clock ≡ further stand.old.clock run.clock) }
+    ensures env { stand.new.env ≡ stand.old.env }
     ensures stands { result ≡ None → IsReplay (job_of job.now) (replay_of stand.new) }
     ensures cycle { stand.new.clock.cycle ≤ stand.old.clock.cycle + 500 }
     ensures taken { stand.new.clock.taken ≤ stand.old.clock.taken + 500 }
@@ -294,6 +299,10 @@ impl Replay {
         ensures shown { result ≡ difference_of (job_of job.now) (next_start (job_of job.now) self.old) }
         ensures follows { result ≡ None → Follows (job_of job.now) (next_start (job_of job.now) self.old)
             (next_start (job_of job.now) self.new) }
+        ensures place { result ≡ None → (run : BoardRun)
+            × (segment_of (job_of job.now) (next_start (job_of job.now) self.old) ≡ Some run)
+            × (self.new.clock ≡ further self.old.clock run.clock) }
+        ensures env { self.new.env ≡ self.old.env }
         ensures stands { result ≡ None → IsReplay (job_of job.now) self.new }
         ensures cycle { self.new.clock.cycle ≤ self.old.clock.cycle + 500 }
         ensures taken { self.new.clock.taken ≤ self.old.clock.taken + 500 }

@@ -24,6 +24,11 @@ returns-clause-follows g c none =
     rw c.in-Some.ensures.env (follows_after job replay stand.pair stand.events.items c.in-Some.reached.clock
     c.in-Some.reached.boundary comes.ended comes.at comes.machine)
 
+pub returns-clause-place : goal.returns-clause-place
+returns-clause-place g c none =
+    let ended = c.in-Some.ensures.reached.ended in
+    (ended.run, ended.segment, ended.clock)
+
 pub returns-clause-stands : goal.returns-clause-stands
 returns-clause-stands g c none =
     let job = job_of c.args.job.now in
