@@ -24,7 +24,8 @@ pub record IsOfPath (tree : WordTree) (bits : List Decided) (word j : ℕ) (oper
   pub bits_are : bits ≡ before ++ rest
   pub term : ℕ
   pub asked : (tree.words before).asked ≡ Some term
-  pub at : StandsAtWord (table_in tree.map (tree.words bits).list) (tree.words bits).list (tree.words before).list term word
+  pub at : StandsAtWord (table_in tree.map (tree.words bits).list) (tree.words bits).list (tree.words before).list
+      term word
   pub lowest : j ≡ 0
   pub value : Bool
   pub is : operation ≡ path_word (path_along tree before) (next_bit tree before) value

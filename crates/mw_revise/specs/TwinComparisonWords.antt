@@ -1,5 +1,5 @@
 -- The words of the comparison of both programs, where both first segments have ended at a boundary.
-use Rattle.std.specs.Prelude.{ℕ, ◌+◌, List, [], ◌∷◌, Bool, not, ◌==◌, ◌&&◌, if◌then◌else◌, slice_index, Option, Some, None}
+use Rattle.std.specs.Prelude.{ℕ, ◌+◌, List, [], ◌∷◌, Bool, not, ◌==◌, ◌&&◌, if◌then◌else◌, slice_index}
 use Rattle.std.specs.Option.{unwrap_or}
 use Rattle.mw_board.specs.declared.parts.BoardParts.{BoardParts}
 use Rattle.mw_board.specs.Elements.{element_count, element_width}

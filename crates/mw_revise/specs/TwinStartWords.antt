@@ -18,8 +18,8 @@ abbrev pub old_element_words : Option KeepLine → (number width : ℕ) → Word
 old_element_words (Some (Fixed element old_value new_value)) number width l = with_constant old_value width l
 old_element_words about number width l = with_variable (Element number) width l
 
--- a new element: a kept one is the old one, whose term this is; a fixed one is its value; and any other has the variable
--- of this number
+-- a new element: a kept one is the old one, whose term this is; a fixed one is its value; and any other has the
+-- variable of this number
 abbrev pub new_element_words : Option KeepLine → (number width kept : ℕ) → WordList → Ended
 new_element_words (Some (Equal element)) number width kept l = ended kept l
 new_element_words (Some (Fixed element old_value new_value)) number width kept l = with_constant new_value width l

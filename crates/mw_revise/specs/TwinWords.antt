@@ -14,7 +14,6 @@ use Rattle.mw_revise.specs.SegmentWords.SegmentEnd.{wants, reaches, passes}
 use Rattle.mw_revise.specs.Sites.{address_on}
 use Rattle.mw_revise.specs.TwinComparisonWords.{twin_comparison_words}
 use Rattle.mw_revise.specs.TwinStartWords.{twin_start_words}
-use Rattle.mw_term.specs.declared.decided.Decided.{Decided}
 use Rattle.mw_term.specs.declared.kinds.WordKind.TheVariants.{Line}
 use Rattle.mw_term.specs.declared.side.Side.{Side as MemorySide}
 use Rattle.mw_term.specs.declared.side.Side.TheVariants as sides
@@ -25,7 +24,8 @@ abbrev pub memory_side : Side → MemorySide
 memory_side Old = sides.Board
 memory_side New = sides.Machine
 
--- where a program's board is at a block, where its elements have these terms, and its first line is there already or not
+-- where a program's board is at a block, where its elements have these terms, with the term of its first line where that
+-- is there already
 abbrev pub standing_on : Side → Revision → Block → (terms : List ℕ) → (line : Option ℕ) → Standing
 standing_on side revision block terms line = record {
   side = memory_side side;

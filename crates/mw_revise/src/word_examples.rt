@@ -4,7 +4,7 @@ ghost use Rattle.mw_rel.specs.CaseExamples.{to_one, to_zero};
 ghost use Rattle.mw_rel.specs.ComparisonWords as subjects;
 ghost use Rattle.mw_ready.specs.Examples.{taking_board, writing_board};
 ghost use Rattle.mw_revise.specs.Examples.{adds, block_with, leaves, ors, parted_revision, pushes, register_block};
-ghost use Rattle.mw_revise.specs.Examples.{revision_with, small_revision, speaking_board, to_five, to_four};
+ghost use Rattle.mw_revise.specs.Examples.{revision_with, speaking_board, to_five, to_four};
 ghost use Rattle.mw_revise.specs.WordExamples.{asks_at, compares_at, first_register_lines, staying_on, told_along};
 ghost use Rattle.mw_revise.specs.WordExamples.{op_behind, told_with, words_with};
 ghost use Rattle.mw_board.specs.Examples.{small_board};
