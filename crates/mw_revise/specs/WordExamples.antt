@@ -11,7 +11,9 @@ use Rattle.mw_revise.specs.Examples.{register_block, small_revision, staying}
 use Rattle.mw_revise.specs.Revision.{Revision}
 use Rattle.mw_revise.specs.TwinWords.{twin_tree}
 use Rattle.mw_term.specs.declared.decided.Decided.{Decided}
+use Rattle.mw_term.specs.declared.kinds.WordKind.{WordKind}
 use Rattle.mw_term.specs.declared.op.Op.{Op}
+use Rattle.mw_term.specs.declared.word.Word.{Word}
 use Rattle.mw_term.specs.WordList.{word_number}
 
 -- what there is of a list: how many words, the number of the word that is asked for, and those of the comparisons
@@ -45,6 +47,15 @@ words_with after bits = (twin_tree (small_revision after) (register_block 2)).wo
 abbrev pub op_behind : (others : ℕ) → CaseWords → Option Op
 op_behind others w =
     slice_get w.list.ops (unwrap_or (option_map (λ word. word.term) (slice_get w.list.words others)) 0)
+
+-- the kind of a word, where it is a variable
+abbrev pub kind_in : Option Word → Option WordKind
+kind_in None = None
+kind_in (Some word) = word.kind
+
+-- the kind of the word behind so many others
+abbrev pub kind_behind : (others : ℕ) → CaseWords → Option WordKind
+kind_behind others w = kind_in (slice_get w.list.words others)
 
 -- what there is of that list
 abbrev pub told_with : (after : List ℕ) → List Decided → Told

@@ -6,15 +6,18 @@ ghost use Rattle.mw_ready.specs.Examples.{taking_board, writing_board};
 ghost use Rattle.mw_revise.specs.Examples.{adds, block_with, leaves, ors, parted_revision, pushes, register_block};
 ghost use Rattle.mw_revise.specs.Examples.{revision_with, speaking_board, to_five, to_four};
 ghost use Rattle.mw_revise.specs.WordExamples.{asks_at, compares_at, first_register_lines, staying_on, told_along};
-ghost use Rattle.mw_revise.specs.WordExamples.{op_behind, told_with, words_with};
+ghost use Rattle.mw_revise.specs.WordExamples.{kind_behind, op_behind, told_with, words_with};
 ghost use Rattle.mw_board.specs.Examples.{small_board};
+ghost use Rattle.mw_term.specs.declared.kinds.WordKind.TheVariants.{BesideLine, BesideNoise, Element};
 ghost use Rattle.mw_term.specs.declared.op.Op.TheVariants.{Or};
 
 /// The words of two programs that add registers, the old one in two cycles and the new one in one, where the registers
 /// 0 and 1 are kept and PC is fixed. The start has 25 variables of the old program and 23 of the new one. Each cycle of
 /// the old one has a line, noise, a sum and twelve bits, of which the first is asked for first; the new cycle has no
 /// line. PC is compared on each side, then the registers, and then the memories. With an or in place of the sum the
-/// words have the same numbers, and the or is that of the old program's variables.
+/// words have the same numbers, and the or is that of the old program's variables. The first variable of the new
+/// program is its register 2, numbered behind all old elements; its noise is its own, and so is its second line, where
+/// it goes on.
 pub fn twin_words_are_worked()
     ensures first_bit { told_with adds [] ≡ asks_at 52 }
     ensures second_cycle { told_with adds to_one ≡ asks_at 67 }
@@ -25,6 +28,9 @@ pub fn twin_words_are_worked()
         ≡ subjects.line 19 ∷ subjects.line 19 ∷ subjects.line 0 ∷ subjects.line 1 ∷ [] }
     ensures differs { told_with ors (to_one ++ (to_zero ++ to_four))
         ≡ compares_at 102 (93 ∷ 94 ∷ 95 ∷ 96 ∷ 102 ∷ []) }
+    ensures new_element { kind_behind 25 (words_with adds []) ≡ Some (Element 28) }
+    ensures new_noise { kind_behind 78 (words_with adds (to_one ++ to_zero)) ≡ Some (BesideNoise 0) }
+    ensures later_line { kind_behind 92 (words_with leaves (to_one ++ (to_zero ++ to_five))) ≡ Some (BesideLine 1) }
     ensures shared { op_behind 79 (words_with ors (to_one ++ to_zero)) ≡ Some (Or 1 0) }
 {}
 

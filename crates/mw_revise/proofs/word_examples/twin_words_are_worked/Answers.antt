@@ -31,3 +31,15 @@ returns-clause-lines c = refl
 pub returns-clause-shared : goal.returns-clause-shared
 unfolding cycle_on_literals waits_on_literals revisions_on_literals words_on_literals
 returns-clause-shared c = refl
+
+pub returns-clause-new_element : goal.returns-clause-new_element
+unfolding cycle_on_literals waits_on_literals revisions_on_literals words_on_literals
+returns-clause-new_element c = refl
+
+pub returns-clause-new_noise : goal.returns-clause-new_noise
+unfolding cycle_on_literals waits_on_literals revisions_on_literals words_on_literals
+returns-clause-new_noise c = refl
+
+pub returns-clause-later_line : goal.returns-clause-later_line
+unfolding cycle_on_literals waits_on_literals revisions_on_literals words_on_literals
+returns-clause-later_line c = refl
