@@ -15,7 +15,7 @@ import textwrap
 TOP = pathlib.Path(__file__).resolve().parent.parent
 PAGE = TOP / "docs" / "DEFINITIONS.md"
 COMMENT = re.compile(r"( *)-- (?!-{2,} )(.*)")
-DEFINITION = re.compile(r"( *)(?:unfoldable |abbrev )?pub (?:data |record )?(\S+)")
+DEFINITION = re.compile(r"( *)(?:unfoldable |abbrev )?pub (?!use )(?:data |record )?(\S+)")
 MUTUAL = re.compile(r"(?:unfoldable |abbrev )?mutual$")
 # What may stand between a comment and its definition.
 BETWEEN = re.compile(r"infix|(?:unfoldable |abbrev )?mutual$")

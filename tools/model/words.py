@@ -124,13 +124,15 @@ def element_widths(board):
 
 class Cycle:
     """A cycle of a case, behind so many others that took so many inputs: what it adds to the list, and what it comes to.
-    `elements` has a term by each name, and `decided` the values of the bits that are decided, in their order."""
+    `elements` has a term by each name, and `decided` the values of the bits that are decided, in their order. `side` stands
+    before the kinds of its line and its noise; a `line` that is there already makes no variable."""
 
-    def __init__(self, words, board, microword, elements, sp, memory, decided, number=0, taken=0):
+    def __init__(self, words, board, microword, elements, sp, memory, decided, number=0, taken=0, side="", line=None):
         self.words, self.board, self.microword = words, board, microword
         self.old, self.sp, self.memory = elements, sp, memory
         self.waiting, self.asked, self.made, self.event = list(decided), [], {}, None
-        self.line, self.noise, self.taken = words.fresh("line", number, 1), words.fresh("noise", number, 14), taken
+        self.line = line or words.fresh(f"{side}line", number, 1)
+        self.noise, self.taken = words.fresh(f"{side}noise", number, 14), taken
         self.elements = dict(elements)
         self.run()
         assert not self.waiting

@@ -11,6 +11,7 @@ use Rattle.mw_rel.specs.SteadyCase.{IsCase, bits_of_cycles, case_of}
 use Rattle.mw_rel.specs.Free.{numbered}
 use Rattle.mw_rel.specs.Job.{Job, IsJob}
 use Rattle.mw_rel.specs.PathWords.{path_of}
+use Rattle.mw_rel.specs.TreePaths.{path_along}
 use Rattle.mw_rel.specs.Relation.{Boundary}
 use Rattle.mw_rel.proofs.Cases.{cases_begin_with_cycles}
 use Rattle.mw_rel.proofs.Relations.{solved_at}
@@ -34,7 +35,7 @@ bound_within job number b is there same =
 
 -- the path of no bits is true always
 no_path : (job : Job) (number : ℕ) (bits : List Decided) → bits ≡ [] → path_of job number bits ≡ always
-unfolding path_of
+unfolding path_along
 no_path job number bits none = ap (path_of job number) none
 
 -- a run that has met no bit is on its way

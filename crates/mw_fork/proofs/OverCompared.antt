@@ -13,16 +13,16 @@ use Rattle.mw_dd.specs.Diagrams.{IsFirst}
 use Rattle.mw_dd.proofs.Cofactors.{more-same}
 use Rattle.mw_blast.specs.Causes.{IsOver}
 use Rattle.mw_blast.specs.Numbers.{OverHaveNumbers}
-use Rattle.mw_rel.specs.BitOperations.IsOperation.{of_comparison}
+use Rattle.mw_rel.specs.TreeOperations.IsOperation.{of_comparison}
 use Rattle.mw_rel.specs.Case.{IsFeasiblePrefix}
 use Rattle.mw_rel.specs.CaseWords.{CaseWords, bit_values, case_words, whole}
 use Rattle.mw_rel.specs.ComparisonWords.{Compared, Comparison}
 use Rattle.mw_rel.specs.Job.{Job}
 use Rattle.mw_rel.specs.OverBudget.{AreNodesOver}
 use Rattle.mw_rel.specs.PathWords.{comparison_word, path_of}
-use Rattle.mw_rel.specs.PathWords.StandsAtWord.{at_word}
+use Rattle.mw_rel.specs.TreePaths.StandsAtWord.{at_word}
 use Rattle.mw_rel.specs.Sought.{IsSought, NeverFails}
-use Rattle.mw_rel.specs.Sought.IsSought.{at_comparison as sought_at, on_path}
+use Rattle.mw_rel.specs.TreeSought.IsSought.{at_comparison as sought_at, on_path}
 use Rattle.mw_course.specs.declared.elements.Space.{Space}
 use Rattle.mw_fork.specs.Faults.{RunStop}
 use Rattle.mw_explore.specs.declared.fault.Fault.TheVariants.{NoMemory, Over}

@@ -24,13 +24,13 @@ use Rattle.mw_blast.specs.Shared.{IsWrittenSplitCause}
 use Rattle.mw_blast.specs.Splits.{IsPathOver}
 use Rattle.mw_symmem.specs.Listed.{list_in}
 use Rattle.mw_symmem.proofs.Lists.{behind}
-use Rattle.mw_rel.specs.BitOperations.IsOperation.{of_path, of_row}
+use Rattle.mw_rel.specs.TreeOperations.IsOperation.{of_path, of_row}
 use Rattle.mw_rel.specs.Case.{IsFeasiblePrefix}
 use Rattle.mw_rel.specs.CaseWords.{CaseWords, case_words}
 use Rattle.mw_rel.specs.Job.{Job}
 use Rattle.mw_rel.specs.OverBudget.{AreNodesOver}
 use Rattle.mw_rel.specs.PathWords.{IsWord, StandsAtWord, next_bit, path_of, path_word, table_with}
-use Rattle.mw_rel.specs.PathWords.StandsAtWord.{at_constant, at_word}
+use Rattle.mw_rel.specs.TreePaths.StandsAtWord.{at_constant, at_word}
 use Rattle.mw_fork.specs.Faults.{RunStop}
 use Rattle.mw_explore.specs.declared.fault.Fault.TheVariants as stops
 use Rattle.mw_fork.specs.Comparing.{IsFrontOf}

@@ -15,6 +15,7 @@ use Rattle.mw_rel.specs.CaseWords.{CaseWords}
 use Rattle.mw_rel.specs.Job.{Job}
 use Rattle.mw_rel.specs.OverBudget as lists
 use Rattle.mw_rel.specs.PathWords.{bit_asked, next_bit, path_behind, path_of, path_word, table_with}
+use Rattle.mw_rel.specs.TreePaths.{path_along}
 use Rattle.mw_course.specs.Listed.{AsksFor}
 use Rattle.mw_course.specs.Starts.{Ground}
 use Rattle.mw_path.proofs.Triples.{at_most_same, made_same}
@@ -37,7 +38,7 @@ path_behind_more job number before (x ∷ bits) d path =
 pub path_more : (job : Job) (number : ℕ) (bits : List Decided) (d : Decided)
     → path_of job number (bits ++ d ∷ [])
     ≡ made (path_word (path_of job number bits) (next_bit job number bits) d.value)
-unfolding path_of
+unfolding path_along
 path_more job number bits d = path_behind_more job number [] bits d always
 
 -- ---- the next bit

@@ -30,5 +30,10 @@ pub mod SteadyDiffers
 pub mod SteadyLaws
 pub mod SteadyShown
 pub mod SteadyStart
+pub mod TreeBudgets
+pub mod TreeOperations
+pub mod TreePaths
+pub mod TreeSought
 pub mod Views
 pub mod WordExamples
+pub mod WordTree

@@ -1,65 +1,36 @@
--- The path of decided bits, and where their path words stand in the word list.
-use Rattle.std.specs.Prelude.{◌≡◌, ℕ, ◌+◌, List, [], ◌∷◌, ◌++◌, length, Bool, true, false, Option, Some, None}
-use Rattle.std.specs.Prelude.{option_map, slice_get}
+-- The path of the decided bits of a job, and where their path words stand in the word list.
+use Rattle.std.specs.Prelude.{ℕ, List}
 use Rattle.mw_term.specs.declared.decided.Decided.{Decided}
 use Rattle.mw_rel.specs.CaseWords.{CaseWords, case_words}
 use Rattle.mw_rel.specs.ComparisonWords.{Comparison}
 use Rattle.mw_rel.specs.Job.{Job}
-use Rattle.mw_term.specs.Assigned.{Given}
-use Rattle.mw_term.specs.Functions.{Function, Triple, always, made, never}
-use Rattle.mw_term.specs.PathWords.{path_one, path_zero}
-use Rattle.mw_term.specs.Rows.{bit}
+use Rattle.mw_rel.specs.TreePaths as trees
+pub use Rattle.mw_rel.specs.TreePaths.{HaveOneValue, IsWord, StandsAtWord, bit_asked, path_word}
+use Rattle.mw_rel.specs.WordTree.{WordTree}
+use Rattle.mw_term.specs.Functions.{Function, Triple}
 use Rattle.mw_term.specs.Table.{Table}
-use Rattle.mw_term.specs.Values.{term_value}
-use Rattle.mw_term.specs.WordList.{WordList, word_number, table_in}
+use Rattle.mw_term.specs.WordList.{table_in}
+
+-- the word lists of the boundary with a number, along decided bits
+abbrev pub tree_of : Job → (number : ℕ) → WordTree
+tree_of job number = record { map = job.board.map_entries; words = case_words job number }
 
 -- the table of a job's list
 abbrev pub table_with : Job → CaseWords → Table
 table_with job w = table_in job.board.map_entries w.list
 
--- the bit of a term that is asked for; where none is, the bit is 0
-abbrev pub bit_asked : Table → Option ℕ → Function
-bit_asked t (Some term) = bit t term 0
-bit_asked t None = never
-
 -- the bit that decided bits ask for next
 abbrev pub next_bit : Job → (number : ℕ) → List Decided → Function
-next_bit job number bits = bit_asked (table_with job (case_words job number bits)) (case_words job number bits).asked
-
--- the path word of a bit for one of its values
-abbrev pub path_word : (path b : Function) → (value : Bool) → Triple
-path_word path b false = path_zero path b
-path_word path b true = path_one path b
+next_bit job number bits = trees.next_bit (tree_of job number) bits
 
 -- the path of decided bits behind others, whose path is this
 abbrev pub path_behind : Job → (number : ℕ) → (before bits : List Decided) → (path : Function) → Function
-path_behind job number before [] path = path
-path_behind job number before (d ∷ rest) path =
-    path_behind job number (before ++ d ∷ []) rest (made (path_word path (next_bit job number before) d.value))
+path_behind job number before bits path = trees.path_behind (tree_of job number) before bits path
 
--- The path of decided bits: it begins as 1.
-unfoldable pub path_of : Job → (number : ℕ) → List Decided → Function
-path_of job number bits = path_behind job number [] bits always
+-- the path of decided bits
+abbrev pub path_of : Job → (number : ℕ) → List Decided → Function
+path_of job number bits = trees.path_along (tree_of job number) bits
 
 -- the path word of a comparison of a whole case
 abbrev pub comparison_word : Job → (number : ℕ) → (bits : List Decided) → Comparison → Triple
-comparison_word job number bits c =
-    path_zero (path_of job number bits) (bit (table_in job.board.map_entries c.list) c.term 0)
-
--- ---- where a path word stands
-
--- a list's word with a number, which is counted from 1, has this term
-abbrev pub IsWord : WordList → (number term : ℕ) → Type 0
-IsWord l number term =
-    (place : ℕ) × (number ≡ place + 1) × (option_map (λ w. w.term) (slice_get l.words place) ≡ Some term)
-
--- two terms have one value under every assignment
-abbrev pub HaveOneValue : Table → (a b : ℕ) → Type 0
-HaveOneValue t a b = (given : Given) → term_value t given a ≡ term_value t given b
-
--- A path word of a term stands at the term's word, and at each other word of the list that has one value with it. That
--- of a constant, which has no word, stands at the last word before it, or at 0 where there is none.
-pub data StandsAtWord (t : Table) (l : WordList) (before : WordList) (term : ℕ) (number : ℕ) : Type 0 where
-  at_word : (own other : ℕ) → IsWord l own term → IsWord l number other → HaveOneValue t other term
-      → StandsAtWord t l before term number
-  at_constant : word_number l.words term ≡ None → number ≡ length before.words → StandsAtWord t l before term number
+comparison_word job number bits c = trees.comparison_word (tree_of job number) bits c

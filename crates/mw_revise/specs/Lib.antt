@@ -14,3 +14,9 @@ pub mod TwinCase
 pub mod Laws
 pub mod Examples
 pub mod TwinText
+pub mod TwinStartWords
+pub mod SegmentWords
+pub mod TwinComparisonWords
+pub mod TwinWords
+pub mod TwinBudgets
+pub mod WordExamples

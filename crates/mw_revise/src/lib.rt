@@ -14,6 +14,7 @@ mod reading;
 mod said;
 mod site;
 mod twin;
+mod word_examples;
 
 pub use difference::TwinDifference;
 pub use examples::{
@@ -28,3 +29,4 @@ pub use laws::{
 pub use programs::Side;
 pub use reading::read_keep;
 pub use twin::{Twin, print_twin};
+pub use word_examples::{differing_twins_are_worked, twin_sides_are_worked, twin_words_are_worked};
