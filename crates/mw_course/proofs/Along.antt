@@ -1,9 +1,11 @@
 -- What is left of the word list, as the board of a run goes on.
 use Rattle.std.proofs.Common.{◌≡◌, ℕ, ◌+◌, ◌-◌, ◌<◌, List, [], ◌∷◌, ◌++◌, append-nil, ap, sym, ◌∙◌, arith, refl}
 use Rattle.std.specs.Prelude.{suc, Bool, true, false, Option, None, if◌then◌else◌}
+use Rattle.mw_term.specs.declared.side.Side.{Side}
+use Rattle.mw_symmem.specs.Memory.{writes_of}
 use Rattle.mw_term.specs.declared.decided.Decided.{Decided}
 use Rattle.mw_cycle.specs.Boundary.{is_named}
-use Rattle.mw_cycle.specs.CycleWords.{Come}
+use Rattle.mw_cycle.specs.CycleWords.{done, Come}
 use Rattle.mw_cycle.specs.Decided.{decided}
 use Rattle.mw_term.specs.declared.decided.DecidedKind.{DecidedKind}
 use Rattle.mw_term.specs.MemoryRead.{Held}
@@ -53,11 +55,12 @@ behind_words job number registers begun come =
 -- it asks for a bit
 pub asks_in_cycle : (job : Job) (number : ℕ) (bits : List Decided) (old : Run) (space : Space) (board : Symbolic)
     (kind : DecidedKind)
-    (term : ℕ) → board.place.cycle ≡ old.board.place.cycle → space.memory.board ≡ old.space.memory.board
-    → StopsAt job.board job.store old.space.memory.board old.board board (list_of_space old.space) (list_of_space space)
+    (term : ℕ) → board.place.cycle ≡ old.board.place.cycle → board.place.side ≡ old.board.place.side
+    → writes_of space.memory old.board.place.side ≡ writes_of old.space.memory old.board.place.side
+    → StopsAt job.board job.store (writes_of old.space.memory old.board.place.side) old.board board (list_of_space old.space) (list_of_space space)
     kind term → ComesTo job number bits (left_in_cycle job number old.space old.registers old.board)
     → AsksInCycle job number bits (record old { space = space; board = board }) kind term
-asks_in_cycle job number bits old space board kind term cycle writes stops comes =
+asks_in_cycle job number bits old space board kind term cycle side writes stops comes =
     let registers = old.registers in
     let count = old.board.place.cycle + 1 in
     let left = left_in_cycle job number old.space registers old.board in
@@ -68,19 +71,23 @@ asks_in_cycle job number bits old space board kind term cycle writes stops comes
           comes_with job number bits kind value left (left_in_cycle job number space registers now) (λ further.
           ap (behind_words job number registers count) (stops.on value further)
           ∙ ap (λ (held : List Held). behind_words job number registers count
-          (words_left job.board job.store now held further (list_of_space space))) (sym writes)
+          (words_left job.board job.store now held further (list_of_space space)))
+          (sym (ap (writes_of space.memory) side ∙ writes))
           ∙ ap (λ (n : ℕ). behind_words job number registers (n + 1)
-          (words_left job.board job.store now space.memory.board further (list_of_space space))) (sym cycle)) comes;
+          (words_left job.board job.store now (writes_of space.memory board.place.side) further (list_of_space space)))
+          (sym cycle)) comes;
     }
 
 -- it is done: what is left is what is behind it
 pub left_finished : (job : Job) (number : ℕ) (bits : List Decided) (registers : List ℕ) (old space : Space)
-    (before after : Symbolic) → after.place.cycle ≡ before.place.cycle + 1
+    (before after : Symbolic) → after.place.side ≡ before.place.side → after.place.cycle ≡ before.place.cycle + 1
     → Ends job.board job.store old.memory space.memory before after (list_of_space old) (list_of_space space)
     → ComesTo job number bits (left_in_cycle job number old registers before)
     → ComesTo job number bits (left_behind_cycle job number space registers after)
-left_finished job number bits registers old space before after cycle ends comes = λ further.
+left_finished job number bits registers old space before after side cycle ends comes = λ further.
     comes further ∙ ap (behind_words job number registers (before.place.cycle + 1)) (ends.here further)
+    ∙ ap (λ (own : Side). behind_words job number registers (before.place.cycle + 1) (done further
+    (record { list = list_of_space space; standing = standing_in after (writes_of space.memory own) }))) (sym side)
     ∙ ap (λ (n : ℕ). if is_named (addresses_of job) after.place.at then left_of_step job space registers after further
     else left_of_cycles job space registers after ((numbered job number).bound - n) further) (sym cycle)
 
@@ -93,7 +100,7 @@ left_of_next : (job : Job) (number : ℕ) (space : Space) (registers : List ℕ)
     ≡ left_in_cycle job number space registers o further
 left_of_next job number space registers o further before =
     ap (λ (r : Option Reading). behind_words job number registers (o.place.cycle + 1)
-    (left_by job.board job.store o.place (standing_in o space.memory.board) r o.leaving further (list_of_space space)))
+    (left_by job.board job.store o.place (standing_in o (writes_of space.memory o.place.side)) r o.leaving further (list_of_space space)))
     (sym before)
 
 -- so the list comes to the next one, where there is one

@@ -3,6 +3,7 @@
 use Rattle.std.proofs.Common.{◌≡◌, ℕ, ◌<◌, ◌^◌, List, [], length, map, slice_index, ap, sym, subst, ◌∙◌, arith, refl}
 use Rattle.std.specs.Prelude.{true, Option, Some, None}
 use Rattle.std.proofs.lemmas.Nat.{pow_pos}
+use Rattle.mw_term.specs.declared.side.Side.TheVariants.{Board}
 use Rattle.mw_board.specs.declared.parts.BoardParts.{BoardParts}
 use Rattle.mw_cycle.specs.Environment.{Environment, values_of}
 use Rattle.mw_cycle.specs.SteadyEnvironment.{values_of as steady_values_of}
@@ -25,7 +26,7 @@ use Rattle.mw_rel.specs.Free.{is_free, numbered}
 use Rattle.mw_rel.specs.Job.{Job, IsJob}
 use Rattle.mw_ready.specs.Thinned.{always_ready}
 use Rattle.mw_rel.specs.SteadyStart.{Start}
-use Rattle.mw_symboard.proofs.Environments.{own_found, variables_have_widths}
+use Rattle.mw_symboard.proofs.Environments.{own_found}
 use Rattle.mw_course.specs.declared.elements.Space.{Space}
 use Rattle.mw_course.specs.Begins.{IsAssigned, IsChosen, kind_value, value_or_zero}
 use Rattle.mw_course.specs.Boundaries.{IsSpace}
@@ -55,9 +56,9 @@ value_below t given (Some term) width table wide = value_within t given width te
 -- each value of its lists is that of its variable
 listed : (t : Table) (words : List Word) (given : Given) (env : Environment) (series : Series) (n : ℕ)
     → HasEntries t words given env
-    → slice_index (values_of env (among_all series)) n ≡ value_or_zero t given (term_of words (kind_of series n))
+    → slice_index (values_of env (among_all series)) n ≡ value_or_zero t given (term_of words (kind_of Board series n))
 listed t words given env series n entries =
-    sym (entry_of env series n) ∙ entries (kind_of series n) (outside_of series n)
+    sym (entry_of env series n) ∙ entries (kind_of Board series n) (outside_of series n)
 
 -- its lists but that of the waits are all that it has without waits
 lists_same : (env : Environment) (series : Series)
@@ -73,25 +74,25 @@ without_waits env none = rw none refl
 listed_steady : (t : Table) (words : List Word) (given : Given) (env : Environment) (series : Series) (n : ℕ)
     → HasEntries t words given env
     → slice_index (steady_values_of (but_waits env) series) n
-    ≡ value_or_zero t given (term_of words (kind_of series n))
+    ≡ value_or_zero t given (term_of words (kind_of Board series n))
 listed_steady t words given env series n entries =
     ap (λ xs. slice_index xs n) (lists_same env series) ∙ listed t words given env series n entries
 
 -- it is one of the assignment
 environment_of : (board : BoardParts) (t : Table) (words : List Word) (cycles : ℕ) (given : Given) (env : Environment)
-    → IsTable t → HaveOwnKinds words → HaveVariables board t words cycles → HasEntries t words given env
-    → IsEnvironmentOf board t words given (but_waits env)
+    → IsTable t → HaveOwnKinds words → HaveVariables Board board t words cycles → HasEntries t words given env
+    → IsEnvironmentOf Board board t words given (but_waits env)
 environment_of board t words cycles given env table own have entries = record {
   within = record {
     values = λ series i.
         (let bits = width_of board.width series in
         subst (λ v. v < 2 ^ bits) (sym (listed_steady t words given env series i entries))
-        (value_below t given (term_of words (kind_of series i)) bits table
-        (variables_have_widths board t words cycles have series i)));
+        (value_below t given (term_of words (kind_of Board series i)) bits table
+        (have.widths series i)));
   };
   values = λ series n place term is.
       listed_steady t words given env series n entries
-      ∙ ap (value_or_zero t given) (own_found words place term (kind_of series n) own is);
+      ∙ ap (value_or_zero t given) (own_found words place term (kind_of Board series n) own is);
 }
 
 -- the variables of the free elements have the values of their terms
@@ -153,7 +154,7 @@ assigned_by job number space given begin is values memory entries none trimmed =
       memory = λ address. memory address ∙ ap (λ (t : Table). base_word t given l.reads address) table;
       lists = λ series n.
           listed space.terms space.words given begin.env series n entries
-          ∙ ap (λ (t : Table). kind_value t l given (kind_of series n)) table;
+          ∙ ap (λ (t : Table). kind_value t l given (kind_of Board series n)) table;
       wait = none;
       trimmed = trimmed;
     }

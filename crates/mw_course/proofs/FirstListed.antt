@@ -3,6 +3,11 @@ use Rattle.std.proofs.Common.{◌≡◌, ℕ, ◌+◌, ◌<◌, ◌≤◌, List,
 use Rattle.std.proofs.Common.{slice_index, ap, arith, refl, subst, sym, ◌∙◌}
 use Rattle.std.proofs.lemmas.Grind.{same_number_lists}
 use Rattle.std.proofs.lemmas.List.{get_or-drop, get_or-take}
+use Rattle.mw_term.specs.declared.side.Side.TheVariants.{Board}
+use Rattle.std.specs.Prelude.{Option, None}
+use Rattle.mw_term.specs.declared.side.Side.{Side}
+use Rattle.mw_symmem.specs.Memory.{writes_of}
+use Rattle.mw_symboard.specs.Parts.{HasElements}
 use Rattle.mw_board.specs.declared.parts.BoardParts.{BoardParts}
 use Rattle.mw_board.specs.Depth.{depth_of}
 use Rattle.mw_board.specs.Elements.{element_count}
@@ -16,7 +21,7 @@ use Rattle.mw_term.specs.MemoryRead.{Held}
 use Rattle.mw_term.specs.Table.{Table}
 use Rattle.mw_term.specs.WordList.{AllEnded}
 use Rattle.mw_symboard.specs.Along.{standing_in}
-use Rattle.mw_symboard.specs.Laws.{IsNew}
+use Rattle.mw_symboard.specs.Laws.{IsBeginning}
 use Rattle.mw_symboard.specs.Parts.{AreParts}
 use Rattle.mw_symboard.specs.Turns.{Symbolic}
 use Rattle.mw_symboard.proofs.Begun.{has_number, number_below, number_of_element}
@@ -49,7 +54,7 @@ parts_from board terms = record {
 
 -- an element of a new board has its term among these parts
 part_same : (board : BoardParts) (terms : List ℕ) (o : Symbolic) (e : Element)
-    → IsNew board (take (element_count board) terms) o
+    → HasElements board (take (element_count board) terms) o.place.parts
     → IsElement board e → term_of_part (parts_with board terms) e ≡ term_of_part o.place.parts e
 part_same board terms o e new is =
     let p = parts_with board terms in
@@ -57,7 +62,7 @@ part_same board terms o e new is =
     let below = number_below board e is in
     subst (λ (f : Element). term_of_part p f ≡ term_of_part o.place.parts f) (has_number board e is)
     (parts_are board terms p (parts_from board terms) n below
-    ∙ sym (get_or-take (element_count board) terms n 0 below) ∙ sym (new.elements n below))
+    ∙ sym (get_or-take (element_count board) terms n 0 below) ∙ sym (new n below))
 
 -- some terms from one on are a list that is as long and has them
 same_taken : (terms xs : List ℕ) (from count : ℕ) → from + count ≤ length terms → length xs ≡ count
@@ -86,7 +91,7 @@ same_parts a b regs q mar ir flips pc r stack = ap made (rw (regs, q, mar, ir, f
     }
 
 parts_first : (board : BoardParts) (t : Table) (terms : List ℕ) (o : Symbolic) → element_count board ≤ length terms
-    → AreParts board t o.place.parts → IsNew board (take (element_count board) terms) o
+    → AreParts board t o.place.parts → HasElements board (take (element_count board) terms) o.place.parts
     → parts_with board terms ≡ o.place.parts
 parts_first board t terms o enough are new =
     let p = o.place.parts in
@@ -104,47 +109,51 @@ parts_first board t terms o enough are new =
 
 -- ---- where it stands
 
-same_standings : (a b : Standing) → a.at ≡ b.at → a.sp ≡ b.sp → a.parts ≡ b.parts → a.writes ≡ b.writes
-    → a.events ≡ b.events → a.cycle ≡ b.cycle → a.taken ≡ b.taken → a ≡ b
-same_standings a b at sp parts writes events cycle taken =
-    ap made (rw (at, sp, parts, writes, events, cycle, taken) refl)
+same_standings : (a b : Standing) → a.side ≡ b.side → a.at ≡ b.at → a.sp ≡ b.sp → a.parts ≡ b.parts
+    → a.writes ≡ b.writes → a.events ≡ b.events → a.cycle ≡ b.cycle → a.taken ≡ b.taken → a.line ≡ b.line → a ≡ b
+same_standings a b side at sp parts writes events cycle taken line =
+    ap made (rw (side, at, sp, parts, writes, events, cycle, taken, line) refl)
   where
-    made : ℕ × ℕ × Parts × List Held × List SymEvent × ℕ × ℕ → Standing
+    made : Side × ℕ × ℕ × Parts × List Held × List SymEvent × ℕ × ℕ × Option ℕ → Standing
     made all = record {
-      at = all.0;
-      sp = all.1;
-      parts = all.2;
-      writes = all.3;
-      events = all.4;
-      cycle = all.5;
-      taken = all.6;
+      side = all.0;
+      at = all.1;
+      sp = all.2;
+      parts = all.3;
+      writes = all.4;
+      events = all.5;
+      cycle = all.6;
+      taken = all.7;
+      line = all.8;
     }
 
 standing_first : (board : BoardParts) (boundary : Boundary) (t : Table) (terms : List ℕ) (o : Symbolic)
     (writes : List Held)
     → element_count board ≤ length terms → AreParts board t o.place.parts
-    → IsNew board (take (element_count board) terms) o
-    → o.place.at ≡ boundary.address → o.place.sp ≡ boundary.sp → writes ≡ []
+    → HasElements board (take (element_count board) terms) o.place.parts
+    → IsBeginning Board boundary.address boundary.sp None o → writes ≡ []
     → standing_at board boundary terms ≡ standing_in o writes
-standing_first board boundary t terms o writes enough are new at sp none =
-    same_standings (standing_at board boundary terms) (standing_in o writes) (sym at) (sym sp)
-    (parts_first board t terms o enough are new) (sym none) (sym new.events) (sym new.cycle) (sym new.taken)
+standing_first board boundary t terms o writes enough are has new none =
+    same_standings (standing_at board boundary terms) (standing_in o writes) (sym new.side_is) (sym new.at)
+    (sym new.sp_is) (parts_first board t terms o enough are has) (sym none) (sym new.events) (sym new.cycle)
+    (sym new.taken) (sym new.line_is)
 
 -- ---- the word list
 
 pub first_listed : (job : Job) (number : ℕ) (space : Space) (elements registers : List ℕ) (o : Symbolic)
     → element_count job.board ≤ length elements → AreParts job.board space.terms o.place.parts
-    → IsNew job.board (take (element_count job.board) elements) o
-    → o.place.at ≡ (numbered job number).address → o.place.sp ≡ (numbered job number).sp → space.memory.board ≡ []
+    → HasElements job.board (take (element_count job.board) elements) o.place.parts
+    → IsBeginning Board (numbered job number).address (numbered job number).sp None o → space.memory.board ≡ []
     → registers ≡ registers_of job elements
     → start_words job.relation.shape (numbered job number) ≡ all_ended elements (list_of_space space)
     → ComesTo job number [] (left_of_cycles job space registers o (numbered job number).bound)
 unfolding words_along
-first_listed job number space elements registers o enough are new at sp none own listed further =
+first_listed job number space elements registers o enough are has new none own listed further =
     let boundary = numbered job number in
     let l = list_of_space space in
     let standing =
-    standing_first job.board boundary space.terms elements o space.memory.board enough are new at sp none in
+    standing_first job.board boundary space.terms elements o (writes_of space.memory o.place.side) enough are has new
+    (ap (writes_of space.memory) new.side_is ∙ none) in
     ap (λ (start : AllEnded). along_cycles job (registers_in job.board start.terms) boundary.bound
     (standing_at job.board boundary start.terms) further start.list) listed
     ∙ ap (λ s. along_cycles job (registers_of job elements) boundary.bound s further l) standing

@@ -5,6 +5,7 @@ use Rattle.std.specs.Prelude.{Bool, true, filter, Option, Some, None, slice_get,
 use Rattle.std.proofs.Math.Nat.{mod-eq_of_lt}
 use Rattle.std.proofs.lemmas.List.{get_or-map, length-map}
 use Rattle.std.proofs.lemmas.Option.{same_Some}
+use Rattle.mw_term.specs.declared.side.Side.TheVariants.{Board}
 use Rattle.mw_cycle.specs.Boundary.{numbers}
 use Rattle.mw_cycle.specs.Environment.{Environment}
 use Rattle.mw_cycle.proofs.Named.{no_variable}
@@ -113,19 +114,19 @@ same_kind words i j a b one two same first second =
     let place : i ≡ j = omega (arith, same) in
     kind_of (same_Some (variable a one) (variable b two) (sym first ∙ ap (slice_get words) place ∙ second))
 
-no_outside : (n : ℕ) → ¬ IsOutsideKind (Element n)
-no_outside n is = no_variable (Element n) is.0 is.1 refl is.2
+no_outside : (n : ℕ) → ¬ IsOutsideKind Board (Element n)
+no_outside n is = no_variable Board (Element n) is.0 is.1 refl is.2
 
-base_inside : (k : ℕ) → ¬ IsOutsideKind (Base k)
-base_inside k is = no_variable (Base k) is.0 is.1 refl is.2
+base_inside : (k : ℕ) → ¬ IsOutsideKind Board (Base k)
+base_inside k is = no_variable Board (Base k) is.0 is.1 refl is.2
 
 -- the number of an element's variable is no other's
 pub element_inside : (words : List Word) (place term n : ℕ) → IsVariable words place term (Element n)
-    → ¬ IsOutsideNumber words (place + 1)
+    → ¬ IsOutsideNumber Board words (place + 1)
 element_inside words place term n is other =
     no_outside n
-    (subst IsOutsideKind (sym (same_kind words place other.place term other.term (Element n) other.kind other.number is
-    other.is)) other.outside)
+    (subst (IsOutsideKind Board) (sym (same_kind words place other.place term other.term (Element n) other.kind
+    other.number is other.is)) other.outside)
 
 pub element_no_base : (words : List Word) (place term n : ℕ) → IsVariable words place term (Element n)
     → ¬ IsBaseNumber words (place + 1)
@@ -134,12 +135,12 @@ element_no_base words place term n is other =
     same_kind words place other.place term other.term (Element n) (Base other.k) other.number is other.is in cc
 
 -- nor is that of a variable of an environment a base read's
-pub outside_no_base : (words : List Word) (n : ℕ) → IsOutsideNumber words n → ¬ IsBaseNumber words n
+pub outside_no_base : (words : List Word) (n : ℕ) → IsOutsideNumber Board words n → ¬ IsBaseNumber words n
 outside_no_base words n one other =
     let e : one.kind ≡ Base other.k =
     same_kind words one.place other.place one.term other.term one.kind (Base other.k) (sym one.number ∙ other.number)
     one.is other.is in
-    base_inside other.k (subst IsOutsideKind e one.outside)
+    base_inside other.k (subst (IsOutsideKind Board) e one.outside)
 
 -- under an assignment that gives the element's number its value, its variable has it
 pub element_value : (t : Table) (words : List Word) (place term n width : ℕ) (values : List ℕ) (given : Given)

@@ -4,6 +4,7 @@ use Rattle.std.specs.Prelude.{Some, slice_get, slice_index}
 use Rattle.std.proofs.lemmas.Grind.{same_number_lists}
 use Rattle.std.proofs.lemmas.List.{get_or-map, get_or-take, length-map}
 use Rattle.std.proofs.lemmas.Option.{get_or_from_slice_get, slice_get-get_or}
+use Rattle.mw_term.specs.declared.side.Side.TheVariants.{Board}
 use Rattle.mw_board.specs.Elements.{element_count}
 use Rattle.mw_cycle.specs.Elements.{element}
 use Rattle.mw_cycle.specs.SteadyEnvironment.{Environment}
@@ -111,7 +112,7 @@ elements_are job number g given pair n is all below =
 start_of : (job : Job) (number : ℕ) (g : Ground) (given : Given) (start : Start) → IsJob job → IsGround job number g
     → IsStartAt job number start → HaveFree job number g given start.pair
     → FitImage g.table given g.memory.reads start.pair.board.memory
-    → IsEnvironmentOf job.board g.table g.words given start.env → StandsForStart job number g given start
+    → IsEnvironmentOf Board job.board g.table g.words given start.env → StandsForStart job number g given start
 start_of job number g given start is ground starts free fit outside =
     let pair = start.pair in
     let related = related_at job number start starts in
@@ -127,6 +128,7 @@ start_of job number g given start is ground starts free fit outside =
           depth = related.sp;
           elements = λ n below. elements_are job number g given pair n is all below;
           memory = refl;
+          first_line = λ term is. absurd cc;
         };
       };
       registers = registers_are job number g given pair is ground related all;
@@ -138,7 +140,7 @@ start_of job number g given start is ground starts free fit outside =
 -- values of the free elements' terms, the image and the environment choose.
 pub start_with : (job : Job) (number : ℕ) (g : Ground) → IsJob job → IsGround job number g → (given : Given)
     (image : List ℕ) (env : Environment) → IsImage g.memory image → FitImage g.table given g.memory.reads image
-    → IsEnvironmentOf job.board g.table g.words given env
+    → IsEnvironmentOf Board job.board g.table g.words given env
     → (start : Start)
     × IsChosen job number (begin_of job (numbered job number) g.table given g.elements image (never_waiting env))
     (always_ready start)
@@ -172,7 +174,7 @@ start_there job number g is ground given =
     let work = ground.space.workspace in
     let image = images_are_there g.table g.words g.memory given work.table work.memory in
     let env =
-    environments_are_there job.board g.table g.words ground.cycles given work.table ground.own ground.variables in
+    environments_are_there Board job.board g.table g.words ground.cycles given work.table ground.own ground.variables in
     let one = start_with job number g is ground given image.0 env.0 image.1 image.2 env.1 in
     (one.0, one.2)
 
@@ -188,7 +190,7 @@ HasElements job g given start = (place term n : ℕ) → IsVariable g.words plac
 pub reached_from : (job : Job) (number : ℕ) (g : Ground) → IsJob job → IsGround job number g → (start : Start)
     → IsStartAt job number start → (first : Given) → HasElements job g first start
     → (given : Given) × StandsForStart job number g given start
-    × ((n : ℕ) → ¬ IsOutsideNumber g.words n → ¬ IsBaseNumber g.words n → given n ≡ first n)
+    × ((n : ℕ) → ¬ IsOutsideNumber Board g.words n → ¬ IsBaseNumber g.words n → given n ≡ first n)
 reached_from job number g is ground start starts first has =
     let work = ground.space.workspace in
     let related = related_at job number start starts in
@@ -196,11 +198,11 @@ reached_from job number g is ground start starts first has =
     let values = values_of job.board start.pair in
     let words = pair_words job start.pair is (record { board = related.board_fits; machine = related.machine_fits }) in
     let second =
-    environments_are_reached job.board g.table g.words ground.cycles first start.env work.table work.of ground.own
+    environments_are_reached Board job.board g.table g.words ground.cycles first start.env work.table work.of ground.own
     ground.variables starts.begins.env in
     let third =
     images_are_reached g.table g.words g.memory start.pair.board.memory second.0 work.table work.memory image in
-    let outside = environments_stay job.board g.table g.words second.0 third.0 start.env work.table work.of
+    let outside = environments_stay Board job.board g.table g.words second.0 third.0 start.env work.table work.of
     (λ n at. third.2 n (outside_no_base g.words n at)) second.1 in
     let free : HaveFree job number g third.0 start.pair = λ n below at.
     (let v = ground.free n below at in

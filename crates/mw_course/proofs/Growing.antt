@@ -3,6 +3,7 @@ use Rattle.std.proofs.Common.{◌≡◌, inl, inr, ℕ, ◌+◌, ◌<◌, List, 
 use Rattle.std.proofs.Common.{subst, ◌∙◌, arith, refl}
 use Rattle.std.specs.Prelude.{true, Some, None}
 use Rattle.std.proofs.lemmas.Option.{same_Some}
+use Rattle.mw_term.specs.declared.side.Side.TheVariants.{Board}
 use Rattle.mw_board.specs.Elements.{element_count}
 use Rattle.mw_term.specs.declared.decided.Decided.{Decided}
 use Rattle.mw_term.specs.Assigned.{Given}
@@ -54,7 +55,7 @@ pub start_before : (job : Job) (number : ℕ) (old new : Ground) (given : Given)
     → IsGround job number old → GoesTo old new → StandsForStart job number new given start
     → StandsForStart job number old given start
 start_before job number old new given start is ground goes one =
-    let before = runs_fit_before job.board old.table new.table old.words new.words goes.more old.memory new.memory given
+    let before = runs_fit_before Board job.board old.table new.table old.words new.words goes.more old.memory new.memory given
     (course_of start) ground.space.workspace goes.later goes.words goes.reads in
     let origin = origin_of job number old.elements in
     let same : origin_of job number new.elements ≡ origin = ap (origin_of job number) goes.elements in
@@ -66,8 +67,8 @@ start_before job number old new given start is ground goes one =
       starts = one.starts;
       board = record {
         fits = before.0 board.fits;
-        begins = before.1 origin.terms origin.at origin.sp (board_elements job old.table old.elements is ground.wide)
-            board.begins;
+        begins = before.1 origin.terms origin.at origin.sp origin.line
+            (board_elements job old.table old.elements is ground.wide) (λ term own. absurd cc) board.begins;
       };
       registers = registers
           ∙ values_same old.table new.table given (registers_of job old.elements) goes.later.keeps
@@ -116,7 +117,7 @@ values_later job number old new ground goes given pair related image fits free n
     ∙ sym (value_before job number old new given n ground goes below)
 
 pub ground_later : (job : Job) (number : ℕ) (old new : Ground) (cycles : ℕ) → IsJob job → IsGround job number old
-    → GoesTo old new → HaveVariables job.board new.table new.words cycles → IsGround job number new
+    → GoesTo old new → HaveVariables Board job.board new.table new.words cycles → IsGround job number new
 ground_later job number old new cycles is ground goes have = record {
   there = ground.there;
   space = space_later job old.table new.table old.words new.words old.memory new.memory goes.later goes.reads
@@ -185,7 +186,7 @@ cases_later job number old new bits path is ground goes cases = record {
 }
 
 pub way_later : (job : Job) (number : ℕ) (old new : Ground) (bits : List Decided) (path : Function)
-    (cycles : ℕ) → IsJob job → GoesTo old new → HaveVariables job.board new.table new.words cycles
+    (cycles : ℕ) → IsJob job → GoesTo old new → HaveVariables Board job.board new.table new.words cycles
     → IsOnWay job number old bits path → IsOnWay job number new bits path
 way_later job number old new bits path cycles is goes have on = record {
   stands = ground_later job number old new cycles is on.stands goes have;

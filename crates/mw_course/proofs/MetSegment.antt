@@ -63,7 +63,6 @@ next_of_segment job number n elements bits path run made none below on finished 
   on = on.on;
   in_run = on.in_run;
   passed = passed_more job number n elements bits path run made none on;
-  variables = on.variables;
   unwritten = on.unwritten;
   registers = on.registers;
   listed = λ idle count.
@@ -95,6 +94,8 @@ of_board job number count elements bits path run under on =
     record {
       with_start = λ given start is holds.
           record { so_far = bits; in_run = on.in_run.in_run given (course_of start) is.board holds };
+      side = on.in_run.side;
+      line = on.in_run.line;
       parts = terms.0;
       events = terms.1;
     }

@@ -2,7 +2,11 @@
 use Rattle.std.proofs.Common.{◌≡◌, ◌≢◌, inl, inr, ℕ, ◌+◌, ◌<◌, ◌++◌, ◌∷◌, List, [], length, take, ap, sym, subst, ◌∙◌}
 use Rattle.std.proofs.Common.{arith, refl}
 use Rattle.std.specs.Prelude.{Bool, ◌==◌, Some, None, slice_get}
-use Rattle.std.proofs.lemmas.Bool.{cases_lt}
+use Rattle.mw_term.specs.declared.side.Side.TheVariants.{Board}
+use Rattle.mw_term.specs.declared.side.Side.{Side}
+use Rattle.mw_symmem.specs.Memory.{writes_of}
+use Rattle.mw_symboard.specs.Parts.{HasElements}
+use Rattle.mw_symboard.proofs.Runs.{reads_write_nothing}
 use Rattle.mw_board.specs.Elements.{element_count}
 use Rattle.mw_term.specs.declared.decided.Decided.{Decided}
 use Rattle.mw_cycle.specs.Decided.{decided}
@@ -21,12 +25,12 @@ use Rattle.mw_symmem.proofs.Lists.{behind}
 use Rattle.mw_symboard.specs.Along.{ListsTurn}
 use Rattle.mw_symboard.specs.Cycle.{bits_before}
 use Rattle.mw_symboard.specs.Kinds.{IsCycleKind}
-use Rattle.mw_symboard.specs.Laws.{IsNew, bits_in}
+use Rattle.mw_symboard.specs.Laws.{IsBeginning, bits_in}
 use Rattle.mw_symboard.specs.Paths.{IsNextBit, IsPath}
 use Rattle.mw_symboard.specs.Seen.{Progress, microword_of}
-use Rattle.mw_symboard.specs.Turns.{IsSymbolic, IsTurn, Symbolic, decided_so}
-use Rattle.mw_symboard.specs.Variables.{HasVariables}
-use Rattle.mw_symboard.proofs.Environments.{begun_has_variables, cycles_are_there, variables_stay}
+use Rattle.mw_symboard.specs.Turns.{IsSymbolic, IsTurn, Symbolic, decided_so, other_side}
+use Rattle.mw_symboard.specs.Variables.{HaveVariables}
+use Rattle.mw_symboard.proofs.Environments.{cycles_are_there}
 use Rattle.mw_symboard.proofs.OnPaths.{paths_begin, paths_go_on, paths_take_bits}
 use Rattle.mw_rel.specs.SteadyCase.{cycles_of}
 use Rattle.mw_rel.specs.SteadyCaseLaws.{HasNoBoundaryYet}
@@ -51,40 +55,16 @@ use Rattle.mw_course.proofs.Growing.{goes_to, on_path_later, on_path_narrower, w
 -- a board that stands at a boundary is on the path that is true always
 pub path_begins : (job : Job) (number : ℕ) (space : Space) (elements : List ℕ) (board : Symbolic) (path : Function)
     → IsJob job → AreElements job space.terms space.words space.memory elements
-    → IsNew job.board (take (element_count job.board) elements) board
-    → board.place.at ≡ (numbered job number).address → board.place.sp ≡ (numbered job number).sp
+    → HasElements job.board (take (element_count job.board) elements) board.place.parts
+    → IsBeginning Board (numbered job number).address (numbered job number).sp None board
     → space.memory.board ≡ [] → Agree path always
     → IsPath job.board job.store space.terms space.words space.memory (origin_of job number elements) board [] path
-path_begins job number space elements board path valid are new at sp none agree =
+path_begins job number space elements board path valid are has new none agree =
     paths_begin job.board job.store space.terms space.words space.memory (origin_of job number elements) board path
-    (board_elements job space.terms elements valid are.wide) new at sp none agree
+    (record { elements = board_elements job space.terms elements valid are.wide; line = λ term is. absurd cc }) has new
+    none agree
 
 -- ---- turns
-
--- the variables of all finished cycles are there after a turn
-variables_after : (job : Job) (old new : Space) (before after : Symbolic) (turn : Turn)
-    → IsSymbolic job.board job.store old.terms old.words old.memory before
-    → GoesOn (IsCycleKind before.place.cycle before.place.taken) old.terms new.terms old.words new.words
-    old.memory new.memory
-    → IsTurn job.board job.store new.terms new.words old.memory new.memory before after turn
-    → (turn ≡ Finished → length before.place.decided ≡ bits_before (microword_of job.board job.store before.place) + 12)
-    → ((n : ℕ) → n < before.place.cycle → HasVariables job.board old.terms old.words n)
-    → (n : ℕ) → n < after.place.cycle → HasVariables job.board new.terms new.words n
-variables_after job old new before after (Ask kind term) symbolic goes is all there n below =
-    let cycle : after.place.cycle ≡ before.place.cycle = ap (λ (p : Progress). p.cycle) is.0 in
-    variables_stay job.board old.terms new.terms old.words new.words goes.more n goes.later goes.words
-    (there n (omega (arith, cycle, below)))
-variables_after job old new before after Finished symbolic goes is all there n below =
-    variables_stay job.board old.terms new.terms old.words new.words goes.more n goes.later goes.words
-    (elim (cases_lt n before.place.cycle) [
-      | inl h ↦ there n h
-      | inr h ↦
-          let enough = all refl in
-          let same : before.place.cycle ≡ n = omega (arith, is.2, below, h) in
-          subst (λ (k : ℕ). HasVariables job.board old.terms old.words k) same
-          ((begun_has_variables job.board job.store old.terms old.words old.memory before symbolic).1
-          (omega (arith, enough)))
-    ])
 
 -- after a turn that asks, it waits; and after one that finishes the cycle, one more is finished
 goes_no_further : (job : Job) (t : Table) (words : List Word) (mold mnew : Memory) (old new : Symbolic) (turn : Turn)
@@ -113,14 +93,16 @@ turned_on job number elements bits path old space board (Ask kind term) is lists
   on,
   asks kind term refl,
   asks_in_cycle job number bits old space board kind term (ap (λ (p : Progress). p.cycle) is.0)
-      (ap (λ (m : Memory). m.board) is.2) lists comes,
+      (ap (λ (p : Progress). p.side) is.0)
+      (ap (λ (m : Memory). writes_of m old.board.place.side) is.2
+      ∙ reads_write_nothing old.board.place.side old.space.memory space.memory.reads) lists comes,
 )
 turned_on job number elements bits path old space board Finished is lists comes on asks all = (
   on,
   record {
     all = all refl;
     before = lists.before;
-    left = left_finished job number bits old.registers old.space space old.board board is.2 lists comes;
+    left = left_finished job number bits old.registers old.space space old.board board is.4 is.2 lists comes;
   },
 )
 
@@ -129,7 +111,7 @@ pub on_turn : (job : Job) (number : ℕ) (elements : List ℕ) (bits : List Deci
     (space : Space)
     (board : Symbolic) (turn : Turn) → IsJob job → IsWorkspace old.space.terms old.space.words old.space.memory
     → IsSymbolic job.board job.store old.space.terms old.space.words old.space.memory old.board → old.board.asked ≡ None
-    → GoesOn (IsCycleKind old.board.place.cycle old.board.place.taken) old.space.terms space.terms
+    → GoesOn (IsCycleKind old.board.place.side old.board.place.cycle old.board.place.taken) old.space.terms space.terms
     old.space.words space.words
     old.space.memory space.memory
     → IsTurn job.board job.store space.terms space.words old.space.memory space.memory old.board board turn
@@ -138,29 +120,30 @@ pub on_turn : (job : Job) (number : ℕ) (elements : List ℕ) (bits : List Deci
     turn → IsSymbolic job.board job.store space.terms space.words space.memory board
     → (turn ≡ Finished
     → length old.board.place.decided ≡ bits_before (microword_of job.board job.store old.board.place) + 12)
-    → space.memory.machine ≡ old.space.memory.machine → HaveOwnKinds space.words
+    → writes_of space.memory (other_side old.board.place.side)
+    ≡ writes_of old.space.memory (other_side old.board.place.side) → HaveOwnKinds space.words
     → IsOnRun job number elements bits path old old.board.place.cycle
     → IsTurnedOnRun job number elements bits
     path (record old { space = space; board = board }) old.board.place.cycle turn
 on_turn job number elements bits path old space board turn valid workspace symbolic idle goes is lists after
-    all machine own on =
+    all other own on =
     let before = ground_in old.space elements in
     let now = ground_in space elements in
     let count = old.board.place.cycle in
-    let to = goes_to (IsCycleKind count old.board.place.taken) old.space space elements goes own in
-    let variables = variables_after job old.space space old.board board turn symbolic goes is all on.variables in
-    let there = cycles_are_there job.board job.store space.terms space.words space.memory board after variables in
+    let to = goes_to (IsCycleKind old.board.place.side count old.board.place.taken) old.space space elements goes own in
+    let there = cycles_are_there job.board job.store space.terms space.words space.memory board after in
     let law = paths_go_on job.board job.store old.space.terms space.terms old.space.words space.words old.space.memory
     space.memory old.board board turn (origin_of job number elements) bits
     path workspace symbolic
     goes is on.in_run in
+    let have = subst (λ (side : Side). HaveVariables side job.board space.terms space.words there.0) law.0.side there.1 in
     turned_on job number elements bits path old space board turn is lists (on.listed idle refl) (record {
-      on = way_later job number before now bits path there.0 valid to there.1 on.on;
+      on = way_later job number before now bits path there.0 valid to have on.on;
       in_run = law.0;
       passed = on_path_later job number before now path (λ start. HasNoBoundaryYet job start count) valid
           on.on.stands to on.passed;
-      variables = variables;
-      unwritten = machine ∙ on.unwritten;
+      unwritten = subst (λ (side : Side). writes_of space.memory (other_side side)
+          ≡ writes_of old.space.memory (other_side side)) on.in_run.side other ∙ on.unwritten;
       registers = on.registers;
       listed = λ waits same.
           absurd (goes_no_further job space.terms space.words old.space.memory space.memory old.board board
@@ -211,7 +194,6 @@ on_decided job number elements bits path run next board kind term value same tur
       passed = on_path_narrower job number (ground_in s elements) path next
           (λ start. HasNoBoundaryYet job start run.board.place.cycle) (λ given holds. (has.by.so given holds).0)
           turned.0.passed;
-      variables = λ n below. turned.0.variables n (omega (arith, cycle, below));
       unwritten = turned.0.unwritten;
       registers = turned.0.registers;
       listed = λ waits count.

@@ -3,6 +3,10 @@ use Rattle.std.proofs.Common.{◌≡◌, ℕ, List, [], ◌∷◌, ◌++◌, app
 use Rattle.std.specs.Prelude.{Bool, true, false, Option, Some, None, map, option_map, slice_get, slice_index_or, ◌==◌}
 use Rattle.std.proofs.lemmas.List.{length-map, map-append}
 use Rattle.std.proofs.lemmas.Option.{slice_get-map}
+use Rattle.mw_term.specs.declared.side.Side.TheVariants.{Board}
+use Rattle.mw_term.specs.declared.side.Side.{Side}
+use Rattle.mw_symmem.specs.Memory.{writes_of}
+use Rattle.mw_symboard.proofs.Staying.{line_stays}
 use Rattle.mw_macro.specs.Branches.{branches_of}
 use Rattle.mw_macro.specs.DescribedStep.{ended, step_of}
 use Rattle.mw_macro.specs.State.{MachineState}
@@ -211,14 +215,18 @@ board_later : (job : Job) (number : ℕ) (sold snew : Space) (elements : List �
     → snew.memory.board ≡ sold.memory.board → IsBoardOf job number (ground_in sold elements) sold path board
     → IsBoardOf job number (ground_in snew elements) snew path board
 board_later job number sold snew elements path board is ground to writes of =
+    let own : writes_of snew.memory board.place.side ≡ writes_of sold.memory board.place.side =
+    subst (λ (side : Side). writes_of snew.memory side ≡ writes_of sold.memory side) (sym of.side) writes in
     let stay = runs_stay job.board job.store sold.terms snew.terms sold.words sold.memory snew.memory board
-    ground.space.workspace to.later writes of.parts of.events in
+    ground.space.workspace to.later own of.parts of.events of.line in
     record {
       with_start = λ given start one at.
           let before =
           start_before job number (ground_in sold elements) (ground_in snew elements) given start is ground to one in
           let with = of.with_start given start before at in
           record { so_far = with.so_far; in_run = stay.2 given (course_of start) with.so_far with.in_run };
+      side = of.side;
+      line = line_stays sold.terms snew.terms board.place.line to.later of.line;
       parts = stay.0;
       events = stay.1;
     }
@@ -229,6 +237,8 @@ board_narrower : (job : Job) (number : ℕ) (g : Ground) (space : Space) (path n
     → IsBoardOf job number g space next board
 board_narrower job number g space path next board narrower of = record {
   with_start = λ given start one at. of.with_start given start one (narrower given at);
+  side = of.side;
+  line = of.line;
   parts = of.parts;
   events = of.events;
 }
@@ -255,7 +265,7 @@ turns job number cycles elements segment board bits sold snew path old new turn 
     let now = ground_in snew elements in
     let to = goes_to IsOfStep sold snew elements goes own in
     let ground = on.on.stands in
-    let variables = cycles_stay job.board sold.terms snew.terms sold.words snew.words goes.more ground.cycles goes.later
+    let variables = cycles_stay Board job.board sold.terms snew.terms sold.words snew.words goes.more ground.cycles goes.later
     goes.words goes.kinds
     (λ n term there.
     input_wide job snew.terms snew.words snew.memory new.parts new.request n term is stepping.terms there)
@@ -276,7 +286,9 @@ turns job number cycles elements segment board bits sold snew path old new turn 
       of_board = board_later job number sold snew elements path board is ground to writes on.of_board;
       begun = on.begun;
       listed = subst (λ (held : List Held). ComesTo job number segment
-          (left_behind_segment job (standing_in board held) on.begun)) (sym writes) on.listed;
+          (left_behind_segment job (standing_in board held) on.begun))
+          (sym (subst (λ (side : Side). writes_of snew.memory side ≡ writes_of sold.memory side) (sym on.of_board.side)
+          writes)) on.listed;
       along =
           along_turn (said_from job.machine on.begun) job.machine on.so_far sold.terms snew.terms sold.words snew.words
           sold.memory snew.memory old new turn turned.says (on.along idle) walks begun;

@@ -4,9 +4,12 @@ use Rattle.std.proofs.Common.{length-drop, slice_index, ap, sym, subst, ◌∙�
 use Rattle.std.specs.Prelude.{Bool, Option, Some, None}
 use Rattle.std.proofs.lemmas.Bool.{cases_lt}
 use Rattle.std.proofs.lemmas.List.{get_or-take}
+use Rattle.std.specs.Option.{option_or}
+use Rattle.mw_term.specs.declared.side.Side.{Side}
+use Rattle.mw_term.specs.declared.side.Side.TheVariants.{Board}
 use Rattle.mw_cycle.specs.SteadySeries.{Series}
 use Rattle.mw_cycle.specs.SteadySeries.{Inputs}
-use Rattle.mw_cycle.specs.SteadySeries.{kind_of, series_of_kind}
+use Rattle.mw_cycle.specs.SteadySeries.{Line as SteadyLine, kind_of, series_of_kind}
 use Rattle.mw_cycle.proofs.Named.{no_kind, no_variable}
 use Rattle.mw_term.specs.declared.decided.DecidedKind.{DecidedKind}
 use Rattle.mw_term.specs.declared.kinds.WordKind.{WordKind}
@@ -21,7 +24,7 @@ use Rattle.mw_symmem.specs.Workspace.{GoesOn, HaveKinds}
 use Rattle.mw_symmem.proofs.Later.{width_later}
 use Rattle.mw_symboard.specs.declared.reading.Reading.{Reading}
 use Rattle.mw_symboard.specs.Cycle.{bits_before}
-use Rattle.mw_symboard.specs.Kinds.{AreInputs, IsCycleKind}
+use Rattle.mw_symboard.specs.Kinds.{HaveWidths, IsCycleKind}
 use Rattle.mw_symboard.specs.Seen.{Progress, microword_of}
 use Rattle.mw_symboard.specs.Turns.{AreNoLater, Asks, HasRead, IsSymbolic, IsTurn, Symbolic, decided_so, reads_by}
 use Rattle.mw_symboard.specs.Turns.{reads_to_come}
@@ -54,16 +57,20 @@ line_later K told tnew wold wnew mold mnew goes line = record {
 
 -- a cycle that asks for a bit has read its line
 line_read : (job : Job) (t : Table) (words : List Word) (m : Memory) (o : Symbolic) (reading : Reading)
-    → o.reading ≡ Some reading → IsSymbolic job.board job.store t words m o → (0 < o.place.cycle → HasLine t words)
-    → HasLine t words
-line_read job t words m o reading begun symbolic before = elim (cases_lt 0 o.place.cycle) [
+    → o.reading ≡ Some reading → IsSymbolic job.board job.store t words m o → o.place.side ≡ Board
+    → o.place.line ≡ None → (0 < o.place.cycle → HasLine t words) → HasLine t words
+line_read job t words m o reading begun symbolic side unlined before = elim (cases_lt 0 o.place.cycle) [
   | inl later ↦ before later
   | inr first ↦
       let read = subst (HasRead job.board job.store t words m o.place) begun symbolic.reading in
       let none : o.place.cycle ≡ 0 = omega arith in
+      let line = reading.sources.line in
+      let variable = subst (λ (there : Option ℕ).
+      option_or there (term_of words (kind_of o.place.side SteadyLine o.place.cycle)) ≡ Some line) unlined read.0.line in
       record {
-        line = reading.sources.line;
-        is = subst (λ n. term_of words (Line n) ≡ Some reading.sources.line) none read.0.line;
+        line = line;
+        is = subst (λ n. term_of words (Line n) ≡ Some line) none
+            (subst (λ (own : Side). term_of words (kind_of own SteadyLine o.place.cycle) ≡ Some line) side variable);
         wide = read.0.sources.line;
       }
 ]
@@ -72,7 +79,8 @@ line_asked : (job : Job) (t : Table) (words : List Word) (m : Memory) (o : Symbo
     (kind : DecidedKind) (term : ℕ) → IsUnder job t words m o registers → Asks job.board job.store t words m o kind term
     → HasLine t words
 line_asked job t words m o registers kind term under asks =
-    line_read job t words m o asks.begun.0 asks.begun.1 under.symbolic (λ some. under.line (omega (arith, some)))
+    line_read job t words m o asks.begun.0 asks.begun.1 under.symbolic under.side under.unlined
+    (λ some. under.line (omega (arith, some)))
 
 -- ---- the probe
 
@@ -92,13 +100,13 @@ fresh_later K told tnew wold wnew mold mnew goes never none =
     probe_kept K told tnew wold wnew mold mnew goes never ∙ none
 
 -- a cycle makes none
-no_probe_in : (cycle taken : ℕ) → IsCycleKind cycle taken Probe → ⊥
-no_probe_in cycle taken kind = elim kind [
+no_probe_in : (side : Side) (cycle taken : ℕ) → IsCycleKind side cycle taken Probe → ⊥
+no_probe_in side cycle taken kind = elim kind [
   | inl h ↦ elim h [
     | inl k ↦ let is : Probe ≡ Base k.0 = k.1 in absurd cc
     | inr is ↦ absurd cc
   ]
-  | inr h ↦ no_variable Probe h.0 cycle refl h.2
+  | inr h ↦ no_variable side Probe h.0 cycle refl h.2
 ]
 
 -- ---- turns
@@ -110,13 +118,13 @@ few_by (Some reading) = omega arith
 -- a turn
 pub turned : (job : Job) (told tnew : Table) (wold wnew : List Word) (mold mnew : Memory) (old new : Symbolic)
     (registers : List ℕ) (turn : Turn) → IsUnder job told wold mold old registers
-    → GoesOn (IsCycleKind old.place.cycle old.place.taken) told tnew wold wnew mold mnew
+    → GoesOn (IsCycleKind old.place.side old.place.cycle old.place.taken) told tnew wold wnew mold mnew
     → IsTurn job.board job.store tnew wnew mold mnew old new turn → IsSymbolic job.board job.store tnew wnew mnew new
     → length mnew.reads ≤ length mold.reads + reads_to_come old
     → (turn ≡ Finished → length old.place.decided ≡ bits_before (microword_of job.board job.store old.place) + 12)
     → IsTurned job old.place tnew wnew mnew new registers turn
 turned job told tnew wold wnew mold mnew old new registers (Ask kind term) under goes is symbolic reads all =
-    let K = IsCycleKind old.place.cycle old.place.taken in
+    let K = IsCycleKind old.place.side old.place.cycle old.place.taken in
     let cycle : new.place.cycle ≡ old.place.cycle = ap (λ (p : Progress). p.cycle) is.0 in
     let taken : new.place.taken ≡ old.place.taken = ap (λ (p : Progress). p.taken) is.0 in
     let none : reads_to_come new ≡ 0 = ap reads_by is.3.begun.1 in
@@ -125,11 +133,14 @@ turned job told tnew wold wnew mold mnew old new registers (Ask kind term) under
       record {
         space = space_later job told tnew wold wnew mold mnew goes.later goes.reads goes.workspace under.space;
         symbolic = symbolic;
+        side = ap (λ (p : Progress). p.side) is.0 ∙ under.side;
+        unlined = ap (λ (p : Progress). p.line) is.0 ∙ under.unlined;
         taken = omega (arith, cycle, taken, under.taken);
         reads = omega (arith, none, reads, under.reads, cycle);
         fresh =
-            fresh_later K told tnew wold wnew mold mnew goes (no_probe_in old.place.cycle old.place.taken) under.fresh;
-        line = λ some. line_read job tnew wnew mnew new is.3.begun.0 is.3.begun.1 symbolic before;
+            fresh_later K told tnew wold wnew mold mnew goes (no_probe_in old.place.side old.place.cycle old.place.taken) under.fresh;
+        line = λ some. line_read job tnew wnew mnew new is.3.begun.0 is.3.begun.1 symbolic
+            (ap (λ (p : Progress). p.side) is.0 ∙ under.side) (ap (λ (p : Progress). p.line) is.0 ∙ under.unlined) before;
         count = under.count;
         wide = λ i inside. width_later told tnew _ _ goes.later (under.wide i inside);
       },
@@ -137,16 +148,18 @@ turned job told tnew wold wnew mold mnew old new registers (Ask kind term) under
       is.3,
     )
 turned job told tnew wold wnew mold mnew old new registers Finished under goes is symbolic reads all =
-    let K = IsCycleKind old.place.cycle old.place.taken in
+    let K = IsCycleKind old.place.side old.place.cycle old.place.taken in
     let few : reads_to_come new ≤ 1 = few_by new.reading in
     let enough = all refl in (
       record {
         space = space_later job told tnew wold wnew mold mnew goes.later goes.reads goes.workspace under.space;
         symbolic = symbolic;
+        side = is.4 ∙ under.side;
+        unlined = is.5;
         taken = omega (arith, is.2, is.3, under.taken);
         reads = omega (arith, few, reads, under.reads, is.2);
         fresh =
-            fresh_later K told tnew wold wnew mold mnew goes (no_probe_in old.place.cycle old.place.taken) under.fresh;
+            fresh_later K told tnew wold wnew mold mnew goes (no_probe_in old.place.side old.place.cycle old.place.taken) under.fresh;
         line = λ some. line_later K told tnew wold wnew mold mnew goes (under.line (omega (arith, enough)));
         count = under.count;
         wide = λ i inside. width_later told tnew _ _ goes.later (under.wide i inside);
@@ -166,6 +179,8 @@ decided_under job t words m old new registers kind value term is under asks symb
     record {
       space = under.space;
       symbolic = symbolic;
+      side = ap (λ (o : Symbolic). o.place.side) is ∙ under.side;
+      unlined = ap (λ (o : Symbolic). o.place.line) is ∙ under.unlined;
       taken = omega (arith, cycle, taken, under.taken);
       reads = omega (arith, reads, under.reads, cycle);
       fresh = under.fresh;
@@ -199,25 +214,25 @@ registers_count job t terms is wide =
     omega (arith, length-drop (element_count job.board) terms, wide.count, widths_count job is)
 
 -- no variable of an environment is there
-started_named : (kind : WordKind) → IsStartKind kind → series_of_kind kind ≡ None
+started_named : (kind : WordKind) → IsStartKind kind → series_of_kind Board kind ≡ None
 started_named (Element n) is = refl
 started_named (Base n) is = refl
 started_named other is = absurd is
 
-not_started : (series : Series) (n : ℕ) → ¬ IsStartKind (kind_of series n)
-not_started = no_kind IsStartKind started_named
+not_started : (series : Series) (n : ℕ) → ¬ IsStartKind (kind_of Board series n)
+not_started = no_kind Board IsStartKind started_named
 
 start_without : (words : List Word) (series : Series) (n : ℕ) → HaveKinds IsStartKind words
-    → term_of words (kind_of series n) ≡ None
+    → term_of words (kind_of Board series n) ≡ None
 start_without words series n kinds =
-    absent words (kind_of series n) (λ place other at. not_started series n (kinds place other (kind_of series n) at))
+    absent words (kind_of Board series n) (λ place other at. not_started series n (kinds place other (kind_of Board series n) at))
 
-pub start_inputs : (parts : BoardParts) (t : Table) (words : List Word) → HaveKinds IsStartKind words
-    → AreInputs parts t words
-start_inputs parts t words kinds n term is =
-    let no : None ≡ Some term = sym (start_without words Inputs n kinds) ∙ is in absurd cc
+pub start_widths : (parts : BoardParts) (t : Table) (words : List Word) → HaveKinds IsStartKind words
+    → HaveWidths Board parts t words
+start_widths parts t words kinds series n term is =
+    let no : None ≡ Some term = sym (start_without words series n kinds) ∙ is in absurd cc
 
-pub start_no_later : (words : List Word) → HaveKinds IsStartKind words → AreNoLater 0 words
+pub start_no_later : (words : List Word) → HaveKinds IsStartKind words → AreNoLater Board 0 words
 start_no_later words kinds series by_cycle n from = start_without words series n kinds
 
 pub address_at : (job : Job) (n : ℕ) → IsJob job → n < length job.relation.boundaries
@@ -230,14 +245,17 @@ pointer_at job n is below = is.matched.parts.pointers n no_boundary below
 
 -- a board that stands at a boundary
 pub under_first : (job : Job) (t : Table) (words : List Word) (m : Memory) (o : Symbolic) (terms registers : List ℕ)
-    → IsJob job → AreElements job t words m terms → IsSymbolic job.board job.store t words m o → o.place.cycle ≡ 0
+    → IsJob job → AreElements job t words m terms → IsSymbolic job.board job.store t words m o
+    → o.place.side ≡ Board → o.place.line ≡ None → o.place.cycle ≡ 0
     → o.place.taken ≡ 0 → o.place.decided ≡ [] → registers ≡ drop (element_count job.board) terms
     → IsUnder job t words m o registers
-under_first job t words m o terms registers is are symbolic cycle taken decided same =
+under_first job t words m o terms registers is are symbolic side unlined cycle taken decided same =
     let few : reads_to_come o ≤ 1 = few_by o.reading in
     record {
       space = are.space;
       symbolic = symbolic;
+      side = side;
+      unlined = unlined;
       taken = omega (arith, cycle, taken);
       reads = omega (arith, few, are.few, cycle);
       fresh = absent words Probe (λ place other at. are.kinds place other Probe at);

@@ -3,6 +3,7 @@ use Rattle.std.proofs.Common.{◌≡◌, inl, inr, ℕ, ◌+◌, ◌≤◌, List
 use Rattle.std.proofs.Common.{arith, refl}
 use Rattle.std.proofs.lemmas.Option.{same_Some}
 use Rattle.std.specs.Prelude.{Bool, Option, Some, None, slice_get}
+use Rattle.mw_cycle.specs.SteadySeries.{Inputs}
 use Rattle.mw_macro.specs.declared.counts.Counted.TheVariants.{Reads}
 use Rattle.mw_macro.specs.Counts.{total}
 use Rattle.mw_macro.specs.Machine.{Description}
@@ -55,7 +56,7 @@ waits_behind job t words m o registers request is under own line = record {
   line = line;
   input = λ k place term at.
       subst (λ w. IsOfWidth t w term) (sym is.matched.word)
-      (under.symbolic.inputs k term (only words (Input k) place term own at));
+      (under.symbolic.widths Inputs k term (only words (Input k) place term own at));
 }
 
 -- it is a step of the run

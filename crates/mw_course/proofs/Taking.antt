@@ -6,6 +6,7 @@ use Rattle.std.proofs.Math.Pow.{pow_mono}
 use Rattle.std.proofs.lemmas.List.{map-append, take_more}
 use Rattle.std.proofs.lemmas.List.Elements.{filter-append}
 use Rattle.std.proofs.lemmas.Option.{get_or_from_slice_get, slice_get_read, slice_get_within}
+use Rattle.mw_term.specs.declared.side.Side.TheVariants.{Board}
 use Rattle.mw_board.specs.declared.parts.BoardParts.{BoardParts}
 use Rattle.mw_cycle.specs.Boundary.{numbers}
 use Rattle.mw_cycle.specs.SteadySeries.{Series}
@@ -22,7 +23,6 @@ use Rattle.mw_symmem.specs.Words.{HaveOwnKinds, IsVariable}
 use Rattle.mw_symmem.proofs.Images.{value_within}
 use Rattle.mw_symmem.proofs.Lists.{absent, behind, term_plain, term_variable}
 use Rattle.mw_symboard.specs.Variables.{HaveVariables}
-use Rattle.mw_symboard.proofs.Environments.{variables_have_widths}
 use Rattle.mw_rel.proofs.Completed.{numbers_more}
 use Rattle.mw_course.specs.Begins.{value_or_zero}
 use Rattle.mw_course.specs.Entries.{entry, is_outside}
@@ -125,12 +125,12 @@ taken_next words place w at =
 
 -- the value of a variable of an environment is a value of its list
 pub value_fits : (board : BoardParts) (t : Table) (words : List Word) (cycles term : ℕ) (given : Given)
-    (series : Series) (n : ℕ) → board.width ≤ 32 → IsTable t → HaveVariables board t words cycles
-    → term_of words (kind_of series n) ≡ Some term → term_value t given term < 2 ^ width_of 32 series
+    (series : Series) (n : ℕ) → board.width ≤ 32 → IsTable t → HaveVariables Board board t words cycles
+    → term_of words (kind_of Board series n) ≡ Some term → term_value t given term < 2 ^ width_of 32 series
 value_fits board t words cycles term given series n narrow table have is =
     let bits = width_of board.width series in
     let below : term_value t given term < 2 ^ bits =
-    value_within t given bits term table (variables_have_widths board t words cycles have series n term is) in
+    value_within t given bits term table (have.widths series n term is) in
     let most : 2 ^ bits ≤ 2 ^ width_of 32 series = pow_mono (widths_within board.width series narrow) in
     omega (arith, below, most)
 

@@ -54,7 +54,6 @@ on_run_first job number elements path run valid first idle = record {
   };
   in_run = first.in_run;
   passed = λ given start is along k some most. absurd (omega (arith, some, most));
-  variables = λ n before. absurd (omega (arith, idle.cycles, before));
   unwritten = first.unwritten;
   registers = first.registers;
   listed = λ waits count.

@@ -32,7 +32,7 @@ use Rattle.mw_course.specs.Starts.{HaveFree, HaveValues, IsGround, ground_of}
 use Rattle.mw_course.proofs.Boundaries.{stands}
 use Rattle.mw_course.proofs.OwnTerms.{own_behind}
 use Rattle.mw_course.proofs.Related.{left_of}
-use Rattle.mw_course.proofs.Runs.{start_inputs, start_no_later}
+use Rattle.mw_course.proofs.Runs.{start_widths, start_no_later}
 
 -- ---- lists
 
@@ -163,9 +163,8 @@ ground_first job number count t0 t1 w0 w1 m0 m1 own terms is below are variables
       values = have_values job number count t0 t1 w0 w1 m0 m1 own terms is below are none counted all;
       cycles = 0;
       variables = record {
-        each = λ n before. absurd (omega (arith, before));
+        widths = start_widths job.board t1 w1 later.kinds;
         none = start_no_later w1 later.kinds;
-        inputs = start_inputs job.board t1 w1 later.kinds;
       };
       own = kinds;
     }

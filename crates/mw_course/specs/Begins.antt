@@ -1,5 +1,6 @@
 -- The start that an assignment gives.
 use Rattle.std.specs.Prelude.{◌≡◌, ℕ, [], map, Option, Some, None, slice_index}
+use Rattle.mw_term.specs.declared.side.Side.TheVariants.{Board}
 use Rattle.mw_cycle.specs.Environment.{values_of}
 use Rattle.mw_cycle.specs.SteadySeries.{Series, among_all, kind_of}
 use Rattle.mw_cycle.specs.Trimmed.{IsTrimmed}
@@ -35,7 +36,7 @@ pub record IsAssigned (job : Job) (number : ℕ) (l : WordList) (given : Given) 
       → slice_index begin.memory address ≡ base_word (table_in job.board.map_entries l) given l.reads address
   pub lists : (series : Series) (n : ℕ)
       → slice_index (values_of begin.env (among_all series)) n
-      ≡ kind_value (table_in job.board.map_entries l) l given (kind_of series n)
+      ≡ kind_value (table_in job.board.map_entries l) l given (kind_of Board series n)
   pub wait : begin.env.wait ≡ []
   pub trimmed : IsTrimmed begin.env
 

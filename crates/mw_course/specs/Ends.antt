@@ -1,5 +1,7 @@
 -- Where both sides of a case have ended, on terms.
 use Rattle.std.specs.Prelude.{◌≡◌, ℕ, List, [], Bool, true, false, Option, Some, None, slice_index_or}
+use Rattle.mw_term.specs.declared.side.Side.TheVariants.{Board}
+use Rattle.mw_symmem.specs.Memory.{IsOfWidth}
 use Rattle.mw_term.specs.declared.decided.Decided.{Decided}
 use Rattle.mw_macro.specs.DescribedStep.{ended, step_of}
 use Rattle.mw_rel.specs.CaseWords.{case_words, whole, with_comparisons}
@@ -24,11 +26,14 @@ pub record IsWithStart (job : Job) (space : Space) (given : Given) (start : Star
   pub so_far : List Decided
   pub in_run : IsInRun job.board job.store space.terms space.memory given (course_of start) board so_far
 
--- A board on terms is in the run of each start on a path, and its elements and events have terms of their widths.
+-- A board on terms, on the board's side, is in the run of each start on a path, and its elements and events have terms of
+-- their widths.
 pub record IsBoardOf (job : Job) (number : ℕ) (g : Ground) (space : Space) (path : Function)
     (board : Symbolic) : Type 0 where
   pub with_start : (given : Given) (start : Start) → StandsForStart job number g given start → path given ≡ true
       → IsWithStart job space given start board
+  pub side : board.place.side ≡ Board
+  pub line : (term : ℕ) → board.place.line ≡ Some term → IsOfWidth space.terms 1 term
   pub parts : AreParts job.board space.terms board.place.parts
   pub events : AreEvents job.board space.terms board.events
 

@@ -1,5 +1,6 @@
 -- What an environment has for its variables.
 use Rattle.std.specs.Prelude.{◌≡◌, ℕ, Bool, true, if◌then◌else◌, Option, Some, None, is_some, slice_index}
+use Rattle.mw_term.specs.declared.side.Side.TheVariants.{Board}
 use Rattle.mw_cycle.specs.declared.series.Series.{Series}
 use Rattle.mw_cycle.specs.Environment.{Environment, values_of}
 use Rattle.mw_cycle.specs.Series.{series_of_kind}
@@ -14,11 +15,11 @@ value_at env None = 0
 
 -- the value that a variable of this kind stands for, and 0 where that is none of an environment
 abbrev pub entry : Environment → WordKind → ℕ
-entry env kind = value_at env (series_of_kind kind)
+entry env kind = value_at env (series_of_kind Board kind)
 
 -- whether a kind is that of a variable of an environment
 abbrev pub is_outside : WordKind → Bool
-is_outside kind = is_some (series_of_kind kind)
+is_outside kind = is_some (series_of_kind Board kind)
 
 -- an environment but for its wait list
 abbrev pub but_waits : Environment → SteadyEnvironment

@@ -1,5 +1,6 @@
 -- Where a run stands in the word list of its case.
 use Rattle.std.specs.Prelude.{◌≡◌, ℕ, ◌+◌, ◌-◌, ◌++◌, List, Bool, if◌then◌else◌}
+use Rattle.mw_symmem.specs.Memory.{writes_of}
 use Rattle.mw_term.specs.declared.decided.Decided.{Decided}
 use Rattle.mw_cycle.specs.Boundary.{is_named}
 use Rattle.mw_macro.specs.StepWords.{Underway}
@@ -36,7 +37,7 @@ all_ended terms l = record { list = l; terms = terms }
 
 -- where its board stands
 abbrev pub standing_on : Space → Symbolic → Standing
-standing_on space o = standing_in o space.memory.board
+standing_on space o = standing_in o (writes_of space.memory o.place.side)
 
 -- what is left where the board has begun no cycle, and may make so many
 abbrev pub left_of_cycles : Job → Space → (registers : List ℕ) → Symbolic → (count : ℕ) → List Bool → CaseWords
@@ -46,7 +47,8 @@ left_of_cycles job space registers o count bits =
 -- what is left where it is in a cycle
 abbrev pub left_in_cycle : Job → (number : ℕ) → Space → (registers : List ℕ) → Symbolic → List Bool → CaseWords
 left_in_cycle job number space registers o bits =
-    let come = words_left job.board job.store o space.memory.board bits (list_of_space space) in
+    let come =
+    words_left job.board job.store o (writes_of space.memory o.place.side) bits (list_of_space space) in
     behind_cycle job registers come.asked come
     (along_cycles job registers ((numbered job number).bound - (o.place.cycle + 1)))
 

@@ -12,7 +12,6 @@ use Rattle.mw_symmem.specs.declared.turn.Turn.{Turn}
 use Rattle.mw_symmem.specs.declared.turn.Turn.TheVariants.{Ask, Finished}
 use Rattle.mw_symboard.specs.Paths.{AreAll, IsNextBit, IsPath, IsBy}
 use Rattle.mw_symboard.specs.Turns.{Symbolic, decided_so}
-use Rattle.mw_symboard.specs.Variables.{HasVariables}
 use Rattle.mw_symmach.specs.Along.{AsksAlong, IsAlong, IsDoneAlong}
 use Rattle.mw_symmach.specs.Laws.{IsInStep}
 use Rattle.mw_symmach.specs.Turns as step
@@ -67,7 +66,6 @@ pub record IsOnRun (job : Job) (number : ℕ) (elements : List ℕ) (bits : List
   pub in_run : IsPath job.board job.store run.space.terms run.space.words run.space.memory
       (origin_of job number elements) run.board bits path
   pub passed : HasNoBoundary job number (ground_in run.space elements) path count
-  pub variables : (n : ℕ) → n < run.board.place.cycle → HasVariables job.board run.space.terms run.space.words n
   pub unwritten : run.space.memory.machine ≡ []
   pub registers : run.registers ≡ registers_of job elements
   pub listed : run.board.asked ≡ None → run.board.place.cycle ≡ count

@@ -1,5 +1,6 @@
 -- A run from a boundary, on terms.
 use Rattle.std.specs.Prelude.{◌≡◌, ℕ, ◌+◌, ◌<◌, ◌≤◌, List, length, Some, None}
+use Rattle.mw_term.specs.declared.side.Side.TheVariants.{Board}
 use Rattle.mw_term.specs.declared.kinds.WordKind.TheVariants.{Line, Probe}
 use Rattle.mw_term.specs.declared.word.Word.{Word}
 use Rattle.mw_term.specs.Table.{Table}
@@ -18,12 +19,15 @@ pub record HasLine (t : Table) (words : List Word) : Type 0 where
   pub is : term_of words (Line 0) ≡ Some line
   pub wide : IsOfWidth t 1 line
 
--- A board of a job within a cycle, with what it works on and the terms of the machine's registers. There are 64 base
--- reads at most before the first cycle, and one in each; and there is no probe.
+-- A board of a job within a cycle, on the board's side, with what it works on and the terms of the machine's registers. A
+-- variable stands for each line. There are 64 base reads at most before the first cycle, and one in each; and there is
+-- no probe.
 pub record IsUnder (job : Job) (t : Table) (words : List Word) (m : Memory) (o : Symbolic)
     (registers : List ℕ) : Type 0 where
   pub space : IsSpace job t words m
   pub symbolic : IsSymbolic job.board job.store t words m o
+  pub side : o.place.side ≡ Board
+  pub unlined : o.place.line ≡ None
   pub taken : o.place.taken ≤ o.place.cycle
   pub reads : length m.reads + reads_to_come o ≤ 65 + o.place.cycle
   pub fresh : term_of words Probe ≡ None

@@ -1,5 +1,7 @@
 -- What is known of the starts without waits at a boundary as a run goes on, and which assignments stand for which.
 use Rattle.std.specs.Prelude.{◌≡◌, ℕ, ◌<◌, ◌++◌, List, drop, length, take, true, slice_index}
+use Rattle.std.specs.Prelude.{None}
+use Rattle.mw_term.specs.declared.side.Side.TheVariants.{Board}
 use Rattle.mw_board.specs.Elements.{element_count}
 use Rattle.mw_term.specs.Assigned.{Given}
 use Rattle.mw_term.specs.declared.kinds.WordKind.TheVariants.{Element}
@@ -40,9 +42,11 @@ course_of start = record { image = start.pair.board.memory; env = start.env; sta
 -- what a board begins with at the boundary with a number
 abbrev pub origin_of : Job → (number : ℕ) → (elements : List ℕ) → Origin
 origin_of job number elements = record {
+  side = Board;
   terms = take (element_count job.board) elements;
   at = (numbered job number).address;
   sp = (numbered job number).sp;
+  line = None;
 }
 
 -- the terms of the machine's registers at the start
@@ -89,7 +93,7 @@ pub record IsGround (job : Job) (number : ℕ) (g : Ground) : Type 0 where
       → (place : ℕ) × IsVariable g.words place (slice_index g.elements n) (Element n)
   pub values : HaveValues job number g
   pub cycles : ℕ
-  pub variables : HaveVariables job.board g.table g.words cycles
+  pub variables : HaveVariables Board job.board g.table g.words cycles
   pub own : HaveOwnKinds g.words
 
 -- A run went on: terms, words and base reads were added behind those that there were, and no two variables have one

@@ -5,6 +5,7 @@ ghost use Rattle.mw_cycle.specs.declared.series.Series.TheVariants.{Wait};
 ghost use Rattle.mw_cycle.specs.Series.{series_of_kind, width_of};
 ghost use Rattle.mw_cycle.specs.SteadySeries.{Series as SteadySeries, kind_of, width_of as steady_width_of};
 ghost use Rattle.mw_cycle.specs.Trimmed.{IsTrimmed};
+ghost use Rattle.mw_term.specs.declared.side.Side.TheVariants as sides;
 ghost use Rattle.mw_term.specs.declared.kinds.WordKind.{WordKind};
 ghost use Rattle.mw_term.specs.declared.kinds.WordKind.TheVariants.{Element};
 ghost use Rattle.mw_term.specs.Assigned.{given_by};
@@ -27,7 +28,7 @@ use crate::elements::Space;
 use mw_base::NoMemory;
 use mw_cycle::{Env, Series};
 use mw_rel::{Begin, Job, free};
-use mw_term::{Assignment, Term, Word, WordKind};
+use mw_term::{Assignment, Side, Term, Word, WordKind};
 use std::alloc::Global;
 
 /// The value of the variable of a kind; 0 where there is none.
@@ -99,7 +100,7 @@ fn put(env: &mut Env, series: Series, number: u32, value: u32) -> Result<(), NoM
     requires some { value ≢ 0 }
     requires width { value < 2 ^ width_of 32 series }
     ensures took { OnOk result
-        ((kind : WordKind) → series_of_kind kind ≡ Some (series, number) → HasTaken env.old env.new kind value) }
+        ((kind : WordKind) → series_of_kind sides.Board kind ≡ Some (series, number) → HasTaken env.old env.new kind value) }
     ensures wait { OnOk result (series ≢ Wait → env.new.wait ≡ env.old.wait) }
     ensures trimmed { OnOk result (IsTrimmed env.old → IsTrimmed env.new) }
 {
@@ -114,7 +115,7 @@ fn put(env: &mut Env, series: Series, number: u32, value: u32) -> Result<(), NoM
 /// The environment takes the value of a variable, where that is one of its own. A 0 is left out.
 fn take(env: &mut Env, kind: WordKind, value: u32) -> Result<(), NoMemory>
     requires fresh { entry env.old kind ≡ 0 }
-    requires width { (series : SteadySeries) (n : ℕ) → kind ≡ kind_of series n → value < 2 ^ steady_width_of 32 series }
+    requires width { (series : SteadySeries) (n : ℕ) → kind ≡ kind_of sides.Board series n → value < 2 ^ steady_width_of 32 series }
     ensures took { OnOk result (HasTaken env.old env.new kind value) }
     ensures wait { OnOk result (env.new.wait ≡ env.old.wait) }
     ensures trimmed { OnOk result (IsTrimmed env.old → IsTrimmed env.new) }
@@ -122,7 +123,7 @@ fn take(env: &mut Env, kind: WordKind, value: u32) -> Result<(), NoMemory>
     if value == 0 {
         return Ok(());
     }
-    match Series::of_kind(kind) {
+    match Series::of_kind(Side::Board, kind) {
         Some((series, number)) => put(env, series, number, value),
         None => Ok(()),
     }
@@ -138,7 +139,7 @@ fn take_word(
 ) -> Result<(), NoMemory>
     requires there { word.term < length space.now.terms.ops }
     requires fresh { (kind : WordKind) → word.kind ≡ Some kind → entry env.old kind ≡ 0 }
-    requires width { (series : SteadySeries) (n : ℕ) → word.kind ≡ Some (kind_of series n)
+    requires width { (series : SteadySeries) (n : ℕ) → word.kind ≡ Some (kind_of sides.Board series n)
         → term_value space.now.terms (given_by given.now) word.term < 2 ^ steady_width_of 32 series }
     ensures took { OnOk result ((other : WordKind) → is_outside other ≡ true → entry env.new other
         ≡ (if is_of word.kind other then term_value space.now.terms (given_by given.now) word.term

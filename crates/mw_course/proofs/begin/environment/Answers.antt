@@ -1,5 +1,6 @@
 use Rattle.std.proofs.Common.{ap, sym, take, ◌∙◌, arith}
 use Rattle.std.specs.Prelude.{if◌then◌else◌}
+use Rattle.mw_term.specs.declared.side.Side.TheVariants.{Board}
 use Rattle.mw_cycle.specs.SteadySeries.{kind_of}
 use Rattle.mw_term.specs.Assigned.{given_by}
 use Rattle.mw_term.specs.Values.{term_value}
@@ -31,7 +32,7 @@ take_word-requires-clause-width c = λ series n is.
     let work = ground.space.workspace in
     value_fits c.requires.0.board c.args.space.now.terms words ground.cycles w.term (given_by c.args.given.now) series n
     (omega (arith, ground.space.word, work.memory.word.1)) work.table ground.variables
-    (own_found words i w.term (kind_of series n) slice.ensures.own (word_named words i w (kind_of series n) at is))
+    (own_found words i w.term (kind_of Board series n) slice.ensures.own (word_named words i w (kind_of Board series n) at is))
 
 pub loop-word-preserved : goal.loop-word-preserved
 loop-word-preserved c =

@@ -13,4 +13,4 @@ returns-clause-goes c = λ number elements bits path on.
     let e = c.in_ok-turn.ensures in
     on_turn (job_of c.args.job.now) number elements bits path c.args.self.now _ _ _ c.args.job.now.is_job
     c.requires.under.space.workspace c.requires.under.symbolic c.requires.idle e.goes e.turn e.listed e.symbolic e.all
-    e.machine c.count.ensures.own on
+    e.other c.count.ensures.own on
