@@ -4,10 +4,11 @@ use Rattle.std.proofs.Common.{◌≡◌, ℕ, ◌+◌, ◌<◌, ◌%◌, ◌^◌
 use Rattle.std.specs.Prelude.{◌==◌, if◌then◌else◌, None}
 use Rattle.std.proofs.Math.Nat.{mod-eq_of_lt}
 use Rattle.std.proofs.lemmas.Bool.Decides.{nat_tests}
+use Rattle.mw_term.specs.declared.side.Side.TheVariants.{Board}
 use Rattle.mw_board.specs.declared.parts.BoardParts.{BoardParts}
 use Rattle.mw_cycle.specs.SteadySeries.{Series}
 use Rattle.mw_cycle.specs.SteadySeries.{Inputs}
-use Rattle.mw_cycle.specs.SteadySeries.{kind_of, series_of_kind}
+use Rattle.mw_cycle.specs.SteadySeries.{kind_of, series_of_kind, width_of}
 use Rattle.mw_cycle.proofs.Named.{no_kind, no_variable}
 use Rattle.mw_term.specs.declared.kinds.WordKind.{WordKind}
 use Rattle.mw_term.specs.declared.kinds.WordKind.TheVariants.{Base, Element, Probe}
@@ -19,7 +20,7 @@ use Rattle.mw_symmem.specs.Memory.{IsBaseNumber, IsOfWidth}
 use Rattle.mw_symmem.specs.Words.{HaveOwnKinds, IsVariable}
 use Rattle.mw_symmem.specs.Workspace.{HaveKinds, IsLater}
 use Rattle.mw_symboard.specs.Variables.{HaveVariables, IsOutsideKind, IsOutsideNumber}
-use Rattle.mw_symboard.proofs.Environments.{variables_have_values, variables_stay}
+use Rattle.mw_symboard.proofs.Environments.{variables_have_values}
 use Rattle.mw_rel.specs.SteadyCase.{IsStartAt}
 use Rattle.mw_rel.specs.InRelation.{values_of}
 use Rattle.mw_rel.specs.Job.{Job, IsJob}
@@ -34,14 +35,14 @@ use Rattle.mw_course.proofs.Growing.{goes_to, ground_later, none_later, start_be
 
 -- ---- the probe's number is no other variable's
 
-probe_outside : ¬ IsOutsideKind Probe
-probe_outside is = no_variable Probe is.0 is.1 refl is.2
+probe_outside : ¬ IsOutsideKind Board Probe
+probe_outside is = no_variable Board Probe is.0 is.1 refl is.2
 
 probe_inside : (words : List Word) (place term : ℕ) → IsVariable words place term Probe
-    → ¬ IsOutsideNumber words (place + 1)
+    → ¬ IsOutsideNumber Board words (place + 1)
 probe_inside words place term is other =
     probe_outside
-    (subst IsOutsideKind (sym (same_kind words place other.place term other.term Probe other.kind other.number is
+    (subst (IsOutsideKind Board) (sym (same_kind words place other.place term other.term Probe other.kind other.number is
     other.is)) other.outside)
 
 probe_no_base : (words : List Word) (place term : ℕ) → IsVariable words place term Probe
@@ -92,26 +93,25 @@ reached_at job number g place probe address is ground at wide less start starts 
 
 -- ---- the ground while both sides are compared
 
-compared_named : (kind : WordKind) → IsComparedKind kind → series_of_kind kind ≡ None
+compared_named : (kind : WordKind) → IsComparedKind kind → series_of_kind Board kind ≡ None
 compared_named Probe is = refl
 compared_named (Base n) is = refl
 compared_named other is = absurd is
 
-not_compared : (series : Series) (n : ℕ) → ¬ IsComparedKind (kind_of series n)
-not_compared = no_kind IsComparedKind compared_named
+not_compared : (series : Series) (n : ℕ) → ¬ IsComparedKind (kind_of Board series n)
+not_compared = no_kind Board IsComparedKind compared_named
 
 -- the variables of the cycles stay all that there are
 cycles_compared : (board : BoardParts) (told tnew : Table) (wold wnew more : List Word) (cycles : ℕ) → IsLater told tnew
-    → wnew ≡ wold ++ more → HaveKinds IsComparedKind more → HaveVariables board told wold cycles
-    → HaveVariables board tnew wnew cycles
+    → wnew ≡ wold ++ more → HaveKinds IsComparedKind more → HaveVariables Board board told wold cycles
+    → HaveVariables Board board tnew wnew cycles
 cycles_compared board told tnew wold wnew more cycles later words kinds has = record {
-  each = λ n less. variables_stay board told tnew wold wnew more n later words (has.each n less);
+  widths = λ series n term is.
+      width_kept IsComparedKind told tnew wold wnew more (kind_of Board series n) (width_of board.width series) term later
+      words kinds (not_compared series n) (has.widths series n) is;
   none = λ series by_cycle n past.
-      none_later IsComparedKind wold wnew more (kind_of series n) words kinds (not_compared series n)
+      none_later IsComparedKind wold wnew more (kind_of Board series n) words kinds (not_compared series n)
       (has.none series by_cycle n past);
-  inputs = λ n term is.
-      width_kept IsComparedKind told tnew wold wnew more (kind_of Inputs n) board.width term later words kinds
-      (not_compared Inputs n) (has.inputs n) is;
 }
 
 -- what a comparison works on went on

@@ -3,6 +3,7 @@ use Rattle.std.proofs.Common.{◌≡◌, ℕ, zero, suc, ◌+◌, ◌<◌, List,
 use Rattle.std.proofs.Common.{Some, None, refl, ap, ap₂, sym, subst, ◌∙◌, arith}
 use Rattle.std.specs.Prelude.{if◌then◌else◌}
 use Rattle.std.proofs.lemmas.List.{map-append, take-map}
+use Rattle.mw_term.specs.declared.side.Side.{Side}
 use Rattle.mw_base.specs.declared.event.Event.{Event}
 use Rattle.mw_board.specs.declared.parts.BoardParts.{BoardParts}
 use Rattle.mw_board.specs.Elements.{element_count}
@@ -138,7 +139,10 @@ come_to job number g bits segment cycles space path board step given start valid
           ≡ term_value t given (term_of_part board.place.parts (element_of job.board n))) state (elements n below))
           (ap (λ (s : Stepped). s.state.registers) comes
           ∙ take-map (λ term. term_value t given term) job.machine.registers step.parts.values);
-      board_memory = subst (λ (r : BoardRun). r.state.memory ≡ held_by t given m Board image) state in_run.state.memory;
+      board_memory = subst (λ (own : Side). (board_run job start cycles).state.memory ≡ held_by t given m own image)
+          ended_so.of_board.side
+          (subst (λ (r : BoardRun). r.state.memory ≡ held_by t given m board.place.side image) state
+          in_run.state.memory);
       step_memory = ap (λ (s : Stepped). s.state.memory) comes;
       image = subst (λ x. IsImage x image) memory is.board.fits.image;
       fit = subst (λ x. FitImage x given m.reads image) table

@@ -3,6 +3,8 @@ use Rattle.std.proofs.Common.{◌≡◌, ℕ, List, [], Bool, true, false, not, 
 use Rattle.std.proofs.Common.{ap₂, sym, subst, ◌∙◌, arith}
 use Rattle.std.specs.Prelude.{All, Err, IfSome, Ok, Result, if◌then◌else◌}
 use Rattle.std.proofs.lemmas.Bool.{eq-eqb, eqb-true}
+use Rattle.mw_term.specs.declared.side.Side.TheVariants.{Board}
+use Rattle.mw_symmem.specs.Memory.{writes_of}
 use Rattle.mw_term.specs.declared.decided.Decided.{Decided}
 use Rattle.mw_term.specs.Assigned.{Numbers, given_by}
 use Rattle.mw_term.specs.declared.event.SymEvent.{SymEvent}
@@ -124,9 +126,12 @@ none_so_far map nodes space path = record {
   within = λ i d inside. absurd (omega (arith, inside));
 }
 
-sides_on : (job : Job) (space : Space) (board : Symbolic) (step : Stepping)
+sides_on : (job : Job) (space : Space) (board : Symbolic) (step : Stepping) → board.place.side ≡ Board
     → AreSidesOn (terms_at_end job board step) space (ends_of job space board step)
-sides_on job space board step = record { elements_are = refl; writes = record { board = refl; machine = refl } }
+sides_on job space board step side = record {
+  elements_are = refl;
+  writes = record { board = ap (writes_of space.memory) side; machine = refl };
+}
 
 -- a result says of all comparisons of sides with these terms, lines and events
 abbrev pub CompareAll : Job → (nodes : ℕ) → (old new : Space) → (path : Function) → Result (Option Numbers) RunStop
@@ -137,13 +142,13 @@ CompareAll job nodes old new path result elements lines board machine =
 
 -- so it says it of those of the case
 at_end : (job : Job) (nodes : ℕ) (old new : Space) (path : Function) (board : Symbolic) (step : Stepping)
-    (reached : Boundary) (result : Result (Option Numbers) RunStop)
+    (reached : Boundary) (result : Result (Option Numbers) RunStop) → board.place.side ≡ Board
     → CompareAll job nodes old new path result (terms_at_end job board step) reached.lines board.events
     step.parts.events
     → IsOutcome old.terms.map nodes new path
     (all_compared job.relation.shape reached (ends_of job old board step) (list_of_space old)) result
-at_end job nodes old new path board step reached result compared =
-    compared (ends_of job old board step) (sides_on job old board step) (compared_in (list_of_space old) [])
+at_end job nodes old new path board step reached result side compared =
+    compared (ends_of job old board step) (sides_on job old board step side) (compared_in (list_of_space old) [])
     (none_so_far old.terms.map nodes old path)
 
 -- the same of equal terms, lines and events
@@ -165,7 +170,7 @@ pub alike_within : (job : Job) (number nodes : ℕ) (elements : List ℕ) (bits 
 alike_within job number nodes elements bits cycles old new path board step reached is there alike compared =
     within_all job number nodes bits old.terms.map new path _ is.stands.space.map
     (words_at_end job number elements bits cycles old path board step reached false is there alike) is.written
-    (at_end job nodes old new path board step reached (Ok None) compared)
+    (at_end job nodes old new path board step reached (Ok None) is.ended.of_board.side compared)
 
 -- what was found is the first that is sought
 pub alike_found : (job : Job) (number nodes : ℕ) (elements : List ℕ) (bits : List Decided)
@@ -183,7 +188,7 @@ alike_found job number nodes elements bits cycles old new path board step reache
     own formed there alike compared two =
     found_apart job number elements bits cycles old new path board step reached _ numbers valid is goes own formed there
     (words_at_end job number elements bits cycles old path board step reached false is there alike)
-    (at_end job nodes old new path board step reached (Ok (Some numbers)) compared) two
+    (at_end job nodes old new path board step reached (Ok (Some numbers)) is.ended.of_board.side compared) two
 
 -- what follows from two things that are so of what was found
 pub some_both : {A : Type 0} (P : Option A → Type 0) (Q R : A → Type 0) (o : Option A)
@@ -206,4 +211,4 @@ alike_stops job number nodes elements bits cycles old new path board step reache
     stops_comparing job number nodes bits old.terms.map new path _ stop law laws is.stands.space.map
     (words_at_end job number elements bits cycles old path board step reached false is there alike) is.written
     (prefix_of_case job number bits is.feasible)
-    (at_end job nodes old new path board step reached (Err stop) compared)
+    (at_end job nodes old new path board step reached (Err stop) is.ended.of_board.side compared)

@@ -3,6 +3,7 @@ use Rattle.std.proofs.Common.{◌≡◌, inl, inr, ℕ, ◌+◌, ◌≤◌, List
 use Rattle.std.specs.Prelude.{Bool, true, false, None}
 use Rattle.std.proofs.lemmas.Bool.{cases_lt}
 use Rattle.std.proofs.lemmas.Option.{slice_get-get_or}
+use Rattle.mw_term.specs.declared.side.Side.TheVariants.{Board}
 use Rattle.mw_base.specs.Words.{num}
 use Rattle.mw_board.specs.declared.parts.BoardParts.{BoardParts}
 use Rattle.mw_board.specs.Valid as valid
@@ -26,7 +27,7 @@ use Rattle.mw_symmem.specs.Words.{AreOf, IsVariable}
 use Rattle.mw_symmem.specs.Workspace.{GoesOn}
 use Rattle.mw_symmem.proofs.Lists.{absent, kind_of, missing, pushed}
 use Rattle.mw_symboard.specs.Cycle.{bits_before}
-use Rattle.mw_symboard.specs.Kinds.{AreInputs, IsCycleKind}
+use Rattle.mw_symboard.specs.Kinds.{HaveWidths, IsCycleKind}
 use Rattle.mw_symboard.specs.Turns.{AreNoLater, IsSymbolic, IsTurn, Symbolic, decided_so}
 use Rattle.mw_symrows.specs.Runs.{AreFree, IsFreeKind, IsTurned, IsUnder}
 
@@ -42,28 +43,29 @@ free_push words term own free is place other kind at =
     ]
 
 -- no variable of an environment is free
-free_named : (kind : WordKind) → IsFreeKind kind → series_of_kind kind ≡ None
+free_named : (kind : WordKind) → IsFreeKind kind → series_of_kind Board kind ≡ None
 free_named (Element n) is = refl
 free_named Probe is = refl
 free_named kind is = absurd is
 
-not_free : (series : Series) (n : ℕ) → ¬ IsFreeKind (series_kind series n)
+not_free : (series : Series) (n : ℕ) → ¬ IsFreeKind (series_kind Board series n)
 not_free series n is =
-    no_variable (series_kind series n) series n (free_named (series_kind series n) is) refl
+    no_variable Board (series_kind Board series n) series n (free_named (series_kind Board series n) is) refl
 
 free_without : (words : List Word) (series : Series) (n : ℕ) → AreFree words
-    → term_of words (series_kind series n) ≡ None
+    → term_of words (series_kind Board series n) ≡ None
 free_without words series n free =
-    absent words (series_kind series n)
-    (λ place term is. not_free series n (free place term (series_kind series n) is))
+    absent words (series_kind Board series n)
+    (λ place term is. not_free series n (free place term (series_kind Board series n) is))
 
 -- so none is there
-pub free_no_later : (words : List Word) → AreFree words → AreNoLater 0 words
+pub free_no_later : (words : List Word) → AreFree words → AreNoLater Board 0 words
 free_no_later words free series by_cycle n from = free_without words series n free
 
-pub free_inputs : (board : BoardParts) (t : Table) (words : List Word) → AreFree words → AreInputs board t words
-free_inputs board t words free n term is =
-    let none : term_of words (series_kind Inputs n) ≡ None = free_without words Inputs n free in absurd cc
+pub free_widths : (board : BoardParts) (t : Table) (words : List Word) → AreFree words
+    → HaveWidths Board board t words
+free_widths board t words free series n term is =
+    let none : term_of words (series_kind Board series n) ≡ None = free_without words series n free in absurd cc
 
 -- nor base reads
 pub free_no_base : (words : List Word) → AreFree words → (place term k : ℕ) → ¬ IsVariable words place term (Base k)
@@ -87,7 +89,7 @@ few_reads t words m n memory none = elim (cases_lt n (length m.reads)) [
 -- a turn
 pub turned : (board : BoardParts) (store : List ℕ) (told tnew : Table) (wold wnew : List Word) (mold mnew : Memory)
     (old new : Symbolic) (turn : Turn) → IsUnder board store told wold mold old
-    → GoesOn (IsCycleKind old.place.cycle old.place.taken) told tnew wold wnew mold mnew
+    → GoesOn (IsCycleKind old.place.side old.place.cycle old.place.taken) told tnew wold wnew mold mnew
     → IsTurn board store tnew wnew mold mnew old new turn → IsSymbolic board store tnew wnew mnew new
     → IsTurned board store old.place.cycle tnew wnew mnew new turn
 turned board store told tnew wold wnew mold mnew old new (Ask kind term) under goes is symbolic =
