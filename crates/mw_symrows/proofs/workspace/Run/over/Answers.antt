@@ -16,4 +16,4 @@ returns-clause-under c = λ store.
     c.requires.of c.requires.free
     (ap (λ (p : BoardParts). p.address) c.parts-parts.ensures.exact)
     (ap (λ (p : BoardParts). p.width) c.parts-parts.ensures.exact)
-    c.new-2.ensures c.in_ok-symbolic.ensures.cycle c.in_ok-symbolic.ensures.taken symbolic
+    c.new-2.ensures c.in_ok-symbolic.ensures.begins.cycle c.in_ok-symbolic.ensures.begins.taken symbolic
