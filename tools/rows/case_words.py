@@ -10,6 +10,7 @@ from 1, or VALUE'WIDTH, a constant. Before a cycle the list has a variable for a
 element; before a step one for an address, the request and one for each register.
 
     case_words.py cycles     the rows of `call cycle-words`, for crates/mw_callrows/data/cycle-words
+    case_words.py beside     the rows of `call cycle-words-beside`, for crates/mw_callrows/data/cycle-words-beside
     case_words.py steps      the rows of `call step-words`, for crates/mw_callrows/data/step-words
     case_words.py --check    no row: the words have the values of the cycle and of the step under the assignment of each
                              case and of random ones, the cases use every kind of bit, source, load and instruction, and the
@@ -37,16 +38,19 @@ RANDOM_MACHINES = 30
 
 # ---- a cycle
 
-def symbolic_cycle(board, store, at, state, given):
-    """The cycle from a variable for each element, and the number of its first word."""
+def symbolic_cycle(board, store, at, state, given, beside=False):
+    """The cycle from a variable for each element, and the number of its first word. Where the board stands beside another,
+    the line of its cycle is there already: a variable with the number behind those of its elements."""
     microword = store[at] if at < len(store) else board.fill
     nets = settings_of(cycle(board, store, at, state, *given)[2])
     words = Words()
     words.fresh("probe", 0, board.address)
-    elements = {name: words.fresh("element", number, width) for number, (name, width) in enumerate(element_widths(board))}
+    widths = element_widths(board)
+    others = {"side": "beside-", "line": words.fresh("element", len(widths), 1)} if beside else {}
+    elements = {name: words.fresh("element", number, width) for number, (name, width) in enumerate(widths)}
     first = len(words.words) + 1
     decided = decided_bits(board, microword, state, nets)
-    return first, Cycle(words, board, microword, elements, state.sp, Memory(board.width), decided)
+    return first, Cycle(words, board, microword, elements, state.sp, Memory(board.width), decided, **others)
 
 
 # ---- a described step
@@ -67,6 +71,10 @@ def symbolic_step(machine, setting):
 CYCLES = """\
 # Words that a cycle adds to the list of a case, printed by tools/rows/case_words.py, from the word table alone. Before the
 # cycle the list has a variable for an address of the memory, and one for each element."""
+BESIDE = """\
+# Words that a cycle of a board beside another adds to the list of a case, printed by tools/rows/case_words.py, from the
+# word table alone. Before the cycle the list has a variable for an address of the memory, one for the line of the cycle,
+# and one for each element."""
 STEPS = """\
 # Words that a described step adds to the list of a case, printed by tools/rows/case_words.py, from the word table alone.
 # Before the step the list has a variable for an address of the memory, the request, and a variable for each register.
@@ -95,13 +103,13 @@ def cycle_cases():
     yield "board whose parts are whole words", WHOLE, store, cases
 
 
-def print_cycles():
-    print(CYCLES)
+def print_cycles(head, call, beside):
+    print(head)
     for files, text, store, cases in cycle_cases():
         print_store(files, text, store)
         for name, at, state, given in cases:
-            report = report_of(*symbolic_cycle(Board(text), store, at, state, given))
-            lines = given_lines(files, "cycle-words", at, state, given)
+            report = report_of(*symbolic_cycle(Board(text), store, at, state, given, beside))
+            lines = given_lines(files, call, at, state, given)
             print("\n".join([""] + row_lines(name, lines, "gives", report)))
 
 
@@ -265,7 +273,9 @@ def check():
 def main():
     match sys.argv[1:]:
         case ["cycles"]:
-            print_cycles()
+            print_cycles(CYCLES, "cycle-words", False)
+        case ["beside"]:
+            print_cycles(BESIDE, "cycle-words-beside", True)
         case ["steps"]:
             print_steps()
         case ["--check"]:

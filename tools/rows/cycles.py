@@ -7,6 +7,7 @@ that are printed.
     cycles.py rows       the rows, for crates/mw_callrows/data/cycles
     cycles.py symbolic   the rows of symbolic cycles, for crates/mw_callrows/data/symbolic: the same cases, and cycles of random
                          microwords from random states. They have the state after the cycle, its event, and its decided bits
+    cycles.py beside     the rows of the same cases by a board beside another, for crates/mw_callrows/data/symbolic-beside
     cycles.py --check    no row: random cycles keep a state's ranges, and the cases choose every entry of every list
 """
 import random
@@ -66,13 +67,13 @@ def given_lines(files, call, at, state, given):
     return lines + [f"call {call} noise={noise:x} line={line} input={offered:x}"]
 
 
-def print_symbolic_row(name, files, board, store, at, state, given):
+def print_symbolic_row(name, files, board, store, at, state, given, call="symbolic"):
     """Prints the row of a symbolic cycle, over a set of a board and a store."""
     following, after, nets = cycle(board, store, at, state, *given)
     nets = settings_of(nets)
     bits = decided_bits(board, int(nets["word"], 16), state, nets)
     report = f"{after.text(following)}\nevent={nets['event']}" + "".join(f" {bit}:{value}" for bit, value in bits) + "\n"
-    print("\n".join([""] + row_lines(name, given_lines(files, "symbolic", at, state, given), "gives", report.encode())))
+    print("\n".join([""] + row_lines(name, given_lines(files, call, at, state, given), "gives", report.encode())))
 
 
 def random_state(board):
@@ -151,6 +152,18 @@ def print_symbolic():
             print_symbolic_row(f"random cycle {at} of {width} bits", files, board, store, at, state, given)
 
 
+def print_beside():
+    stores, rows = worked_out()
+    print("# Symbolic cycles of a board beside another, printed by tools/rows/cycles.py: as of one that stands alone.")
+    for width, text in BOARDS.items():
+        board, files = Board(text), f"board of {width} bits"
+        print_store(files, text, stores[width])
+        for name, start, at, given, _, _ in rows:
+            if width_of(start) == width:
+                state = State.read(STARTS[start])
+                print_symbolic_row(name, files, board, stores[width], at, state, given, "symbolic-beside")
+
+
 def in_range(board, at, state):
     words = [state.q, state.ir, *state.regs.values(), *state.memory.values()]
     ranges = [(words, board.width), ([state.mar, *state.memory], board.address), ([state.flips], len(board.flips)),
@@ -185,6 +198,8 @@ def main():
             print_rows()
         case ["symbolic"]:
             print_symbolic()
+        case ["beside"]:
+            print_beside()
         case ["--check"]:
             check()
         case _:

@@ -54,6 +54,8 @@ fn push_call(
         "cycle" => cycles::run(alloc, report, given, files),
         "symbolic" => symbolic::run(alloc, report, given, files),
         "cycle-words" => symbolic::words(alloc, report, given, files),
+        "symbolic-beside" => symbolic::run_beside(alloc, report, given, files),
+        "cycle-words-beside" => symbolic::words_beside(alloc, report, given, files),
         "terms" => steps::terms(alloc, report, given, files),
         "start" => runs::start(alloc, report, files),
         "until" => runs::until(alloc, report, given, files),

@@ -3,7 +3,7 @@ use Rattle.std.proofs.Common.{◌≡◌, inl, inr, ℕ, ◌+◌, ◌≤◌, List
 use Rattle.std.specs.Prelude.{Bool, true, false, None}
 use Rattle.std.proofs.lemmas.Bool.{cases_lt}
 use Rattle.std.proofs.lemmas.Option.{slice_get-get_or}
-use Rattle.mw_term.specs.declared.side.Side.TheVariants.{Board}
+use Rattle.mw_term.specs.declared.side.Side.{Side}
 use Rattle.mw_base.specs.Words.{num}
 use Rattle.mw_board.specs.declared.parts.BoardParts.{BoardParts}
 use Rattle.mw_board.specs.Valid as valid
@@ -43,29 +43,29 @@ free_push words term own free is place other kind at =
     ]
 
 -- no variable of an environment is free
-free_named : (kind : WordKind) → IsFreeKind kind → series_of_kind Board kind ≡ None
-free_named (Element n) is = refl
-free_named Probe is = refl
-free_named kind is = absurd is
+free_named : (side : Side) (kind : WordKind) → IsFreeKind kind → series_of_kind side kind ≡ None
+free_named side (Element n) is = refl
+free_named side Probe is = refl
+free_named side kind is = absurd is
 
-not_free : (series : Series) (n : ℕ) → ¬ IsFreeKind (series_kind Board series n)
-not_free series n is =
-    no_variable Board (series_kind Board series n) series n (free_named (series_kind Board series n) is) refl
+not_free : (side : Side) (series : Series) (n : ℕ) → ¬ IsFreeKind (series_kind side series n)
+not_free side series n is =
+    no_variable side (series_kind side series n) series n (free_named side (series_kind side series n) is) refl
 
-free_without : (words : List Word) (series : Series) (n : ℕ) → AreFree words
-    → term_of words (series_kind Board series n) ≡ None
-free_without words series n free =
-    absent words (series_kind Board series n)
-    (λ place term is. not_free series n (free place term (series_kind Board series n) is))
+free_without : (side : Side) (words : List Word) (series : Series) (n : ℕ) → AreFree words
+    → term_of words (series_kind side series n) ≡ None
+free_without side words series n free =
+    absent words (series_kind side series n)
+    (λ place term is. not_free side series n (free place term (series_kind side series n) is))
 
 -- so none is there
-pub free_no_later : (words : List Word) → AreFree words → AreNoLater Board 0 words
-free_no_later words free series by_cycle n from = free_without words series n free
+pub free_no_later : (side : Side) (words : List Word) → AreFree words → AreNoLater side 0 words
+free_no_later side words free series by_cycle n from = free_without side words series n free
 
-pub free_widths : (board : BoardParts) (t : Table) (words : List Word) → AreFree words
-    → HaveWidths Board board t words
-free_widths board t words free series n term is =
-    let none : term_of words (series_kind Board series n) ≡ None = free_without words series n free in absurd cc
+pub free_widths : (side : Side) (board : BoardParts) (t : Table) (words : List Word) → AreFree words
+    → HaveWidths side board t words
+free_widths side board t words free series n term is =
+    let none : term_of words (series_kind side series n) ≡ None = free_without side words series n free in absurd cc
 
 -- nor base reads
 pub free_no_base : (words : List Word) → AreFree words → (place term k : ℕ) → ¬ IsVariable words place term (Base k)

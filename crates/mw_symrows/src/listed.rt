@@ -81,10 +81,12 @@ fn push_part(
 
 /// Of which kind a variable is, if the kind has this number.
 fn kind_name(words: &Words, term: Term, number: u32) -> Option<&'static [u8]> {
-    let kinds: [(&'static [u8], WordKind); 6] = [
+    let kinds: [(&'static [u8], WordKind); 8] = [
         (b"element", WordKind::Element(number)),
         (b"line", WordKind::Line(number)),
         (b"noise", WordKind::Noise(number)),
+        (b"beside-line", WordKind::BesideLine(number)),
+        (b"beside-noise", WordKind::BesideNoise(number)),
         (b"base", WordKind::Base(number)),
         (b"input", WordKind::Input(number)),
         (b"probe", WordKind::Probe),

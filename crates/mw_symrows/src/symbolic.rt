@@ -2,7 +2,9 @@
 // variables. The variables have the values of the state, of the outside and of the memory, and each bit that the board
 // asks for has the value of its term. The state after the cycle; and the event of the cycle and its decided bits, each
 // by what it says. `call cycle-words noise= line= input=`: the words that this cycle adds. Before it there are a
-// variable for an address of the memory and one for each element, by their numbers.
+// variable for an address of the memory and one for each element, by their numbers. `call symbolic-beside` and `call
+// cycle-words-beside` are the same of a board beside another: the line of its cycle is a variable that there is already,
+// with the number behind those of its elements.
 ghost use Rattle.mw_cycle.specs.State.{Fits};
 ghost use Rattle.mw_term.specs.Table.{Table};
 ghost use Rattle.mw_symboard.specs.Parts.{AreParts};
@@ -10,7 +12,7 @@ ghost use Rattle.mw_symrows.specs.Runs.{IsIdle, IsOver, IsUnder};
 
 use crate::listed::push_words;
 use crate::valued::{SymbolicStop, numbered, value};
-use crate::workspace::{Bit, Outside, Run, assign, element};
+use crate::workspace::{Bit, Outside, Run, Stands, assign, element};
 use mw_base::Event;
 use mw_board::{Board, Store};
 use mw_cycle::{CycleIn, Element, State, element_of};
@@ -34,6 +36,7 @@ enum Printed {
 #[derive(Clone, Copy)]
 struct Asked {
     given: CycleIn,
+    stands: Stands,
     printed: Printed,
 }
 
@@ -264,7 +267,7 @@ fn push_fitting(
 ) -> Result<(), SymbolicStop>
     requires { Fits board.now state.now }
 {
-    let mut run = Run::new(alloc, board, state)?;
+    let mut run = Run::new(alloc, board, state, asked.stands)?;
     let outcome = push_run(alloc, report, board, store, state, asked, &mut run);
     drop(run);
     outcome
@@ -328,6 +331,24 @@ fn push_lines(
     outcome
 }
 
+/// Appends what a call with the words `noise=`, `line=` and `input=` asks for.
+fn push_asked(
+    alloc: Global,
+    report: &mut Report,
+    given: &[String],
+    files: &[File],
+    stands: Stands,
+    printed: Printed,
+) -> Result<(), Fault> {
+    let given = given_of(given)?;
+    let asked = Asked {
+        given,
+        stands,
+        printed,
+    };
+    push_lines(alloc, report, files, asked)
+}
+
 /// Appends the state after the cycle of the words `noise=`, `line=` and `input=`, and its event and its decided bits.
 ///
 /// # Errors
@@ -339,11 +360,21 @@ pub fn run(
     given: &[String],
     files: &[File],
 ) -> Result<(), Fault> {
-    let asked = Asked {
-        given: given_of(given)?,
-        printed: Printed::State,
-    };
-    push_lines(alloc, report, files, asked)
+    push_asked(alloc, report, given, files, Stands::Alone, Printed::State)
+}
+
+/// The same of a board beside another, whose first line is a variable that there is already.
+///
+/// # Errors
+///
+/// As `run`.
+pub fn run_beside(
+    alloc: Global,
+    report: &mut Report,
+    given: &[String],
+    files: &[File],
+) -> Result<(), Fault> {
+    push_asked(alloc, report, given, files, Stands::Beside, Printed::State)
 }
 
 /// Appends the words that this cycle adds.
@@ -357,9 +388,19 @@ pub fn words(
     given: &[String],
     files: &[File],
 ) -> Result<(), Fault> {
-    let asked = Asked {
-        given: given_of(given)?,
-        printed: Printed::Words,
-    };
-    push_lines(alloc, report, files, asked)
+    push_asked(alloc, report, given, files, Stands::Alone, Printed::Words)
+}
+
+/// The same of a board beside another.
+///
+/// # Errors
+///
+/// As `run`.
+pub fn words_beside(
+    alloc: Global,
+    report: &mut Report,
+    given: &[String],
+    files: &[File],
+) -> Result<(), Fault> {
+    push_asked(alloc, report, given, files, Stands::Beside, Printed::Words)
 }

@@ -1,15 +1,17 @@
 // A symbolic board with what it works on, and its cycles.
-ghost use Rattle.std.specs.Prelude.{◌≡◌, ◌≤◌, ◌<◌, ◌+◌, ℕ, List, [], None, length, IfOk, OnOk, IsTrue};
+ghost use Rattle.std.specs.Prelude.{◌≡◌, ◌≤◌, ◌<◌, ◌+◌, ◌^◌, ℕ, List, [], None, Some, length, IfOk, OnOk, IsTrue};
+ghost use Rattle.mw_board.specs.Depth.{depth_of};
 ghost use Rattle.mw_board.specs.Elements.{element_count};
 ghost use Rattle.mw_cycle.specs.Elements.{bits_of, element_of};
 ghost use Rattle.mw_cycle.specs.State.{Fits};
 ghost use Rattle.mw_term.specs.Table as tables;
 ghost use Rattle.mw_term.specs.Table.{IsTable, IsWidth, Table};
-ghost use Rattle.mw_symmem.specs.Memory.{IsMemory, IsOfWidth};
+ghost use Rattle.mw_term.specs.declared.word.Word.{Word};
+ghost use Rattle.mw_symmem.specs.Memory.{IsMemory, IsOfWidth, Memory};
 ghost use Rattle.mw_symmem.specs.Words.{AreOf};
 ghost use Rattle.mw_symmem.specs.Workspace.{IsLater};
 ghost use Rattle.mw_symboard.specs.Parts.{AreElements, AreParts};
-ghost use Rattle.mw_symboard.specs.Turns.{Asks};
+ghost use Rattle.mw_symboard.specs.Turns.{Asks, IsSymbolic};
 ghost use Rattle.mw_symrows.specs.Runs.{AreFree, AreSoFar, IsFreeKind, IsIdle, IsOver, IsTurned, IsUnder};
 
 use crate::valued::{SymbolicStop, is_of_width, numbered, set, value};
@@ -31,6 +33,23 @@ pub struct Run {
     pub memory: SymMemory,
     /// The board.
     pub board: SymBoard,
+    /// Whose side of the memory the board reads and writes.
+    pub(crate) side: Side,
+}
+
+/// Whether a board stands alone, or beside another, which has the line of its first cycle already.
+#[derive(Clone, Copy)]
+pub enum Stands {
+    /// Alone.
+    Alone,
+    /// Beside another.
+    Beside,
+}
+
+/// The number of the variable that stands for the line of a board's first cycle where it stands beside another: the one
+/// behind those of its elements.
+fn line_number(board: &Board) -> Result<u32, SymbolicStop> {
+    numbered(board.element_count())
 }
 
 /// How many bits an element of a board has.
@@ -121,6 +140,71 @@ fn make_elements(
     Ok(elements)
 }
 
+/// A variable for the line of the first cycle, where the board stands beside another.
+fn make_line(
+    alloc: Global,
+    board: &Board,
+    stands: Stands,
+    terms: &mut Written,
+    words: &mut Words,
+) -> Result<Option<Term>, SymbolicStop>
+    requires table { IsTable terms.old }
+    requires of { AreOf terms.old words.old }
+    requires free { AreFree words.old }
+    ensures wide { IfOk result (λ line. (term : ℕ) → line ≡ Some term → IsOfWidth terms.new 1 term) }
+    ensures later { OnOk result (IsLater terms.old terms.new) }
+    ensures of { OnOk result (AreOf terms.new words.new) }
+    ensures free { OnOk result (AreFree words.new) }
+{
+    match stands {
+        Stands::Alone => Ok(None),
+        Stands::Beside => {
+            let kind = WordKind::Element(line_number(board)?);
+            let line = variable(alloc, kind, 1, terms, words)?;
+            Ok(Some(line))
+        }
+    }
+}
+
+/// A board at a control address, with so many words on its stack and these terms for its elements: alone, or beside
+/// another where there is a term for the line of its first cycle.
+fn standing(
+    alloc: Global,
+    board: &Board,
+    address: u16,
+    sp: u8,
+    elements: &[Term],
+    line: Option<Term>,
+) -> Result<SymBoard, SymbolicStop>
+    requires count { length elements.now ≡ element_count board.now }
+    ensures cycle { IfOk result (λ b. b.place.cycle ≡ 0) }
+    ensures taken { IfOk result (λ b. b.place.taken ≡ 0) }
+    ensures asked { IfOk result (λ b. b.asked ≡ None) }
+    ensures symbolic { IfOk result (λ b. (store : List ℕ) (t : Table) (words : List Word) (m : Memory)
+        → address < 2 ^ 12 → sp ≤ depth_of board.now → AreElements board.now t elements.now
+        → ((term : ℕ) → line ≡ Some term → IsOfWidth t 1 term) → AreFree words
+        → IsSymbolic board.now store t words m b) }
+{
+    match line {
+        None => {
+            let made = SymBoard::new(alloc, board, address, sp, elements)?;
+            Ok(made)
+        }
+        Some(line) => {
+            let made = SymBoard::beside(alloc, board, address, sp, elements, line)?;
+            Ok(made)
+        }
+    }
+}
+
+/// Whose side of the memory a board has that stands so.
+fn side_of(stands: Stands) -> Side {
+    match stands {
+        Stands::Alone => Side::Board,
+        Stands::Beside => Side::Machine,
+    }
+}
+
 /// A table with the board's map, and without terms.
 pub(crate) fn no_terms(alloc: Global, board: &Board) -> Result<Written, SymbolicStop>
     ensures exact { IfOk result (λ terms. terms ≡ tables.table_of [] board.now.map_entries) }
@@ -149,6 +233,13 @@ fn set_outside(
     let CycleIn { noise, line, input } = outside.given;
     set(alloc, given, words, WordKind::Line(0), u32::from(line))?;
     set(alloc, given, words, WordKind::Noise(0), u32::from(noise))?;
+    set(
+        alloc,
+        given,
+        words,
+        WordKind::BesideNoise(0),
+        u32::from(noise),
+    )?;
     set(alloc, given, words, WordKind::Input(0), input)?;
     set(alloc, given, words, WordKind::Base(0), outside.word)
 }
@@ -186,12 +277,17 @@ pub struct Bit {
 
 impl Run {
     /// A board at a state's control address and stack pointer, with a variable for each of its elements. It has a
-    /// variable for an address of the memory too.
+    /// variable for an address of the memory too, and where it stands beside another one for the line of its first cycle.
     ///
     /// # Errors
     ///
     /// Memory ran out.
-    pub fn new(alloc: Global, board: &Board, state: &State) -> Result<Run, SymbolicStop>
+    pub fn new(
+        alloc: Global,
+        board: &Board,
+        state: &State,
+        stands: Stands,
+    ) -> Result<Run, SymbolicStop>
         requires { Fits board.now state.now }
         ensures under { IfOk result
             (λ run. (store : List ℕ) → IsUnder board.now store run.terms run.words run.memory run.board) }
@@ -202,11 +298,14 @@ impl Run {
         let mut words = Words::new(alloc);
         let address = board.parts().address;
         variable(alloc, WordKind::Probe, address, &mut terms, &mut words)?;
+        let line = make_line(alloc, board, stands, &mut terms, &mut words)?;
         let elements = make_elements(alloc, board, &mut terms, &mut words)?;
-        Run::over(alloc, board, state, terms, words, &elements)
+        let side = side_of(stands);
+        Run::over(alloc, board, state, terms, words, &elements, line, side)
     }
 
-    /// The same over these terms for the elements, by their numbers.
+    /// The same over these terms for the elements, by their numbers, and for the line of the first cycle, on this
+    /// side of the memory.
     ///
     /// # Errors
     ///
@@ -218,10 +317,13 @@ impl Run {
         terms: Written,
         words: Words,
         elements: &[Term],
+        line: Option<Term>,
+        side: Side,
     ) -> Result<Run, SymbolicStop>
         requires fits { Fits board.now state.now }
         requires count { length elements.now ≡ element_count board.now }
         requires elements { AreElements board.now terms elements.now }
+        requires line { (term : ℕ) → line ≡ Some term → IsOfWidth terms 1 term }
         requires map { terms.map ≡ board.now.map_entries }
         requires table { IsTable terms }
         requires of { AreOf terms words }
@@ -232,12 +334,13 @@ impl Run {
     {
         is_memory_at_first();
         let parts = board.parts();
-        let symbolic = SymBoard::new(alloc, board, state.at, state.seq.sp, elements)?;
+        let symbolic = standing(alloc, board, state.at, state.seq.sp, elements, line)?;
         Ok(Run {
             terms,
             words,
             memory: SymMemory::new(alloc, parts.address, parts.width),
             board: symbolic,
+            side,
         })
     }
 
@@ -357,7 +460,9 @@ impl Run {
         if !self.has_few_reads() || !is_of_width(&self.terms, board.parts().address, probe) {
             return Err(SymbolicStop::Unlike);
         }
-        let term = self.memory.read(alloc, Side::Board, probe, &mut self.terms, &mut self.words)?;
+        let term = self
+            .memory
+            .read(alloc, self.side, probe, &mut self.terms, &mut self.words)?;
         Ok(term)
     }
 
