@@ -3,6 +3,7 @@
 use Rattle.std.proofs.Common.{◌≡◌, ℕ, ◌<◌, ◌^◌, List, [], length, map, slice_index, ap, sym, subst, ◌∙◌, arith, refl}
 use Rattle.std.specs.Prelude.{true, Option, Some, None}
 use Rattle.std.proofs.lemmas.Nat.{pow_pos}
+use Rattle.mw_term.specs.declared.side.Side.{Side}
 use Rattle.mw_term.specs.declared.side.Side.TheVariants.{Board}
 use Rattle.mw_board.specs.declared.parts.BoardParts.{BoardParts}
 use Rattle.mw_cycle.specs.Environment.{Environment, values_of}
@@ -30,7 +31,7 @@ use Rattle.mw_symboard.proofs.Environments.{own_found}
 use Rattle.mw_course.specs.declared.elements.Space.{Space}
 use Rattle.mw_course.specs.Begins.{IsAssigned, IsChosen, kind_value, value_or_zero}
 use Rattle.mw_course.specs.Boundaries.{IsSpace}
-use Rattle.mw_course.specs.Entries.{but_waits, entry, is_outside}
+use Rattle.mw_course.specs.Entries.{HasEntries, but_waits}
 use Rattle.mw_course.specs.Listed.{list_of_space}
 use Rattle.mw_course.specs.OnWay.{ground_in}
 use Rattle.mw_course.specs.Starts.{Ground, IsGround, StandsForStart}
@@ -38,11 +39,6 @@ use Rattle.mw_course.proofs.FreeValues.{term_at}
 use Rattle.mw_course.proofs.Grounds.{start_with}
 use Rattle.mw_course.proofs.Placing.{entry_of, outside_of}
 use Rattle.mw_course.proofs.Taking.{free_same}
-
--- an environment has the values of the variables that an assignment gives
-abbrev pub HasEntries : Table → List Word → Given → Environment → Type 0
-HasEntries t words given env =
-    (kind : WordKind) → is_outside kind ≡ true → entry env kind ≡ value_or_zero t given (term_of words kind)
 
 -- the value of an element's variable
 abbrev pub own_value : Table → List Word → Given → (e : ℕ) → ℕ
@@ -54,11 +50,11 @@ value_below t given None width table wide = pow_pos width
 value_below t given (Some term) width table wide = value_within t given width term table (wide term refl)
 
 -- each value of its lists is that of its variable
-listed : (t : Table) (words : List Word) (given : Given) (env : Environment) (series : Series) (n : ℕ)
-    → HasEntries t words given env
-    → slice_index (values_of env (among_all series)) n ≡ value_or_zero t given (term_of words (kind_of Board series n))
-listed t words given env series n entries =
-    sym (entry_of env series n) ∙ entries (kind_of Board series n) (outside_of series n)
+listed : (side : Side) (t : Table) (words : List Word) (given : Given) (env : Environment) (series : Series) (n : ℕ)
+    → HasEntries side t words given env
+    → slice_index (values_of env (among_all series)) n ≡ value_or_zero t given (term_of words (kind_of side series n))
+listed side t words given env series n entries =
+    sym (entry_of side env series n) ∙ entries (kind_of side series n) (outside_of side series n)
 
 -- its lists but that of the waits are all that it has without waits
 lists_same : (env : Environment) (series : Series)
@@ -71,28 +67,28 @@ lists_same env Noise = refl
 without_waits : (env : Environment) → env.wait ≡ [] → never_waiting (but_waits env) ≡ env
 without_waits env none = rw none refl
 
-listed_steady : (t : Table) (words : List Word) (given : Given) (env : Environment) (series : Series) (n : ℕ)
-    → HasEntries t words given env
+listed_steady : (side : Side) (t : Table) (words : List Word) (given : Given) (env : Environment) (series : Series) (n : ℕ)
+    → HasEntries side t words given env
     → slice_index (steady_values_of (but_waits env) series) n
-    ≡ value_or_zero t given (term_of words (kind_of Board series n))
-listed_steady t words given env series n entries =
-    ap (λ xs. slice_index xs n) (lists_same env series) ∙ listed t words given env series n entries
+    ≡ value_or_zero t given (term_of words (kind_of side series n))
+listed_steady side t words given env series n entries =
+    ap (λ xs. slice_index xs n) (lists_same env series) ∙ listed side t words given env series n entries
 
 -- it is one of the assignment
-environment_of : (board : BoardParts) (t : Table) (words : List Word) (cycles : ℕ) (given : Given) (env : Environment)
-    → IsTable t → HaveOwnKinds words → HaveVariables Board board t words cycles → HasEntries t words given env
-    → IsEnvironmentOf Board board t words given (but_waits env)
-environment_of board t words cycles given env table own have entries = record {
+environment_of : (side : Side) (board : BoardParts) (t : Table) (words : List Word) (cycles : ℕ) (given : Given) (env : Environment)
+    → IsTable t → HaveOwnKinds words → HaveVariables side board t words cycles → HasEntries side t words given env
+    → IsEnvironmentOf side board t words given (but_waits env)
+environment_of side board t words cycles given env table own have entries = record {
   within = record {
     values = λ series i.
         (let bits = width_of board.width series in
-        subst (λ v. v < 2 ^ bits) (sym (listed_steady t words given env series i entries))
-        (value_below t given (term_of words (kind_of Board series i)) bits table
+        subst (λ v. v < 2 ^ bits) (sym (listed_steady side t words given env series i entries))
+        (value_below t given (term_of words (kind_of side series i)) bits table
         (have.widths series i)));
   };
   values = λ series n place term is.
-      listed_steady t words given env series n entries
-      ∙ ap (value_or_zero t given) (own_found words place term (kind_of Board series n) own is);
+      listed_steady side t words given env series n entries
+      ∙ ap (value_or_zero t given) (own_found words place term (kind_of side series n) own is);
 }
 
 -- the variables of the free elements have the values of their terms
@@ -112,12 +108,12 @@ pub start_begun : (job : Job) (number : ℕ) (space : Space) (elements : List �
     → IsGround job number (ground_in space elements)
     → begin.values ≡ map (own_value space.terms space.words given) (free_elements job (numbered job number))
     → IsImage space.memory begin.memory → FitImage space.terms given space.memory.reads begin.memory
-    → HasEntries space.terms space.words given begin.env → begin.env.wait ≡ []
+    → HasEntries Board space.terms space.words given begin.env → begin.env.wait ≡ []
     → (start : Start) × IsChosen job number begin (always_ready start)
     × StandsForStart job number (ground_in space elements) given start
 start_begun job number space elements given begin is ground values image fit entries none =
     let g = ground_in space elements in
-    let outside = environment_of job.board g.table g.words ground.cycles given begin.env ground.space.workspace.table
+    let outside = environment_of Board job.board g.table g.words ground.cycles given begin.env ground.space.workspace.table
     ground.own ground.variables entries in
     let one = start_with job number g is ground given begin.memory (but_waits begin.env) image fit outside in
     let same : map (term_at g.table given elements) (free_elements job (numbered job number)) ≡ begin.values =
@@ -143,7 +139,7 @@ pub assigned_by : (job : Job) (number : ℕ) (space : Space) (given : Given) (be
     → IsSpace job space.terms space.words space.memory
     → begin.values ≡ map (own_value space.terms space.words given) (free_elements job (numbered job number))
     → ((address : ℕ) → slice_index begin.memory address ≡ base_word space.terms given space.memory.reads address)
-    → HasEntries space.terms space.words given begin.env → begin.env.wait ≡ [] → IsTrimmed begin.env
+    → HasEntries Board space.terms space.words given begin.env → begin.env.wait ≡ [] → IsTrimmed begin.env
     → IsAssigned job number (list_of_space space) given begin
 assigned_by job number space given begin is values memory entries none trimmed =
     let l = list_of_space space in
@@ -153,7 +149,7 @@ assigned_by job number space given begin is values memory entries none trimmed =
       values = values ∙ ap (λ (t : Table). map (λ e. kind_value t l given (Element e)) free) table;
       memory = λ address. memory address ∙ ap (λ (t : Table). base_word t given l.reads address) table;
       lists = λ series n.
-          listed space.terms space.words given begin.env series n entries
+          listed Board space.terms space.words given begin.env series n entries
           ∙ ap (λ (t : Table). kind_value t l given (kind_of Board series n)) table;
       wait = none;
       trimmed = trimmed;

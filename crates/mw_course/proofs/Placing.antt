@@ -7,7 +7,7 @@ use Rattle.std.proofs.lemmas.Bool.{eqb-true, eq-eqb}
 use Rattle.std.proofs.lemmas.Bool.Decides.{nat_tests}
 use Rattle.std.proofs.lemmas.List.{length-set}
 use Rattle.std.proofs.lemmas.Nat.{pow_pos}
-use Rattle.mw_term.specs.declared.side.Side.TheVariants.{Board}
+use Rattle.mw_term.specs.declared.side.Side.{Side}
 use Rattle.mw_cycle.specs.declared.series.Series.{Series}
 use Rattle.mw_cycle.specs.declared.series.Series.TheVariants.{Inputs, Line, Noise, Wait}
 use Rattle.mw_cycle.specs.Environment.{Environment, values_of, with_value, with_values}
@@ -29,28 +29,28 @@ use Rattle.mw_course.specs.Entries.{HasTaken, entry, is_outside, value_at}
 abbrev values_in : Environment → SteadySeries → List ℕ
 values_in env series = values_of env (among_all series)
 
-pub entry_of : (env : Environment) (series : SteadySeries) (n : ℕ)
-    → entry env (kind_of Board series n) ≡ slice_index (values_in env series) n
-entry_of env series n = ap (value_at env) (any_series_back Board series n)
+pub entry_of : (side : Side) (env : Environment) (series : SteadySeries) (n : ℕ)
+    → entry side env (kind_of side series n) ≡ slice_index (values_in env series) n
+entry_of side env series n = ap (value_at env) (any_series_back side series n)
 
-pub outside_of : (series : SteadySeries) (n : ℕ) → is_outside (kind_of Board series n) ≡ true
-outside_of series n = ap (λ named. is_some named) (any_series_back Board series n)
+pub outside_of : (side : Side) (series : SteadySeries) (n : ℕ) → is_outside side (kind_of side series n) ≡ true
+outside_of side series n = ap (λ named. is_some named) (any_series_back side series n)
 
 -- the kinds that are those of variables of an environment
-outside_named : (kind : WordKind) (o : Option (Series × ℕ)) → series_of_kind Board kind ≡ o → is_some o ≡ true
-    → (series : SteadySeries) × (n : ℕ) × (kind ≡ kind_of Board series n)
-outside_named kind (Some named) is some =
-    let list = any_named Board kind named is in (list.0, named.1, list.2)
-outside_named kind None is some = absurd cc
+outside_named : (side : Side) (kind : WordKind) (o : Option (Series × ℕ)) → series_of_kind side kind ≡ o → is_some o ≡ true
+    → (series : SteadySeries) × (n : ℕ) × (kind ≡ kind_of side series n)
+outside_named side kind (Some named) is some =
+    let list = any_named side kind named is in (list.0, named.1, list.2)
+outside_named side kind None is some = absurd cc
 
 -- a kind has a value where it is one of an environment's variables, and else 0
 entry_by : (env : Environment) (o : Option (Series × ℕ)) → (is_some o ≡ true → value_at env o ≡ 0) → value_at env o ≡ 0
 entry_by env (Some named) each = each refl
 entry_by env None each = refl
 
-pub entry_none : (env : Environment) (kind : WordKind) → (is_outside kind ≡ true → entry env kind ≡ 0)
-    → entry env kind ≡ 0
-entry_none env kind each = entry_by env (series_of_kind Board kind) each
+pub entry_none : (side : Side) (env : Environment) (kind : WordKind) → (is_outside side kind ≡ true → entry side env kind ≡ 0)
+    → entry side env kind ≡ 0
+entry_none side env kind each = entry_by env (series_of_kind side kind) each
 
 -- ---- one entry is another
 
@@ -63,17 +63,17 @@ kinds_apart : (a b : WordKind) → a ≢ b → same_kind a b ≡ false
 kinds_apart a b other = tested_apart a b (same_kind a b) refl other
 
 -- it is enough that the lists have it
-taken_by : (old new : Environment) (kind : WordKind) (value : ℕ)
+taken_by : (side : Side) (old new : Environment) (kind : WordKind) (value : ℕ)
     → ((series : SteadySeries) (n : ℕ) → slice_index (values_in new series) n
-    ≡ (if same_kind kind (kind_of Board series n) then value else slice_index (values_in old series) n))
-    → HasTaken old new kind value
-taken_by old new kind value each other outside =
-    let named = outside_named other (series_of_kind Board other) refl outside in
+    ≡ (if same_kind kind (kind_of side series n) then value else slice_index (values_in old series) n))
+    → HasTaken side old new kind value
+taken_by side old new kind value each other outside =
+    let named = outside_named side other (series_of_kind side other) refl outside in
     let series = named.0 in
     let n = named.1 in
-    subst (λ (k : WordKind). entry new k ≡ (if same_kind kind k then value else entry old k)) (sym named.2)
-    (entry_of new series n ∙ each series n
-    ∙ ap (λ v. if same_kind kind (kind_of Board series n) then value else v) (sym (entry_of old series n)))
+    subst (λ (k : WordKind). entry side new k ≡ (if same_kind kind k then value else entry side old k)) (sym named.2)
+    (entry_of side new series n ∙ each series n
+    ∙ ap (λ v. if same_kind kind (kind_of side series n) then value else v) (sym (entry_of side old series n)))
 
 -- ---- lists
 
@@ -168,70 +168,70 @@ one_filled series at old env new before is filled =
 
 -- ---- a value at the place
 
-same_of : (series : SteadySeries) (m n : ℕ) → same_kind (kind_of Board series m) (kind_of Board series n) ≡ (m == n)
-same_of series m n =
-    both_ways (same_kind (kind_of Board series m) (kind_of Board series n)) (m == n)
-    (λ same. eq-eqb m n (own_number Board series series m n (kind_is (kind_of Board series m) (kind_of Board series n) same)))
+same_of : (side : Side) (series : SteadySeries) (m n : ℕ) → same_kind (kind_of side series m) (kind_of side series n) ≡ (m == n)
+same_of side series m n =
+    both_ways (same_kind (kind_of side series m) (kind_of side series n)) (m == n)
+    (λ same. eq-eqb m n (own_number side series series m n (kind_is (kind_of side series m) (kind_of side series n) same)))
     (λ equal.
-    subst (λ (k : ℕ). same_kind (kind_of Board series m) (kind_of Board series k) ≡ true) (eqb-true m n equal)
-    (kind_own (kind_of Board series m)))
+    subst (λ (k : ℕ). same_kind (kind_of side series m) (kind_of side series k) ≡ true) (eqb-true m n equal)
+    (kind_own (kind_of side series m)))
 
-own_put : (series : SteadySeries) (number value : ℕ) (env : Environment) (n : ℕ)
+own_put : (side : Side) (series : SteadySeries) (number value : ℕ) (env : Environment) (n : ℕ)
     → value < 2 ^ width_of 32 (among_all series)
     → number < length (values_in env series)
     → slice_index (values_in (with_value (among_all series) number value env) series) n
-    ≡ (if same_kind (kind_of Board series number) (kind_of Board series n) then value else slice_index (values_in env series) n)
-own_put series number value env n small inside =
+    ≡ (if same_kind (kind_of side series number) (kind_of side series n) then value else slice_index (values_in env series) n)
+own_put side series number value env n small inside =
     ap (λ xs. slice_index xs n) (own_set (among_all series) 32 number value env small)
     ∙ set_value (values_in env series) number value n inside
-    ∙ ap (λ (b : Bool). if b then value else slice_index (values_in env series) n) (sym (same_of series number n))
+    ∙ ap (λ (b : Bool). if b then value else slice_index (values_in env series) n) (sym (same_of side series number n))
 
-other_put : (series other : SteadySeries) (number value : ℕ) (env : Environment) (n : ℕ) → other ≢ series
+other_put : (side : Side) (series other : SteadySeries) (number value : ℕ) (env : Environment) (n : ℕ) → other ≢ series
     → slice_index (values_in (with_value (among_all series) number value env) other) n
-    ≡ (if same_kind (kind_of Board series number) (kind_of Board other n) then value else slice_index (values_in env other) n)
-other_put series other number value env n differs =
+    ≡ (if same_kind (kind_of side series number) (kind_of side other n) then value else slice_index (values_in env other) n)
+other_put side series other number value env n differs =
     let apart =
-    kinds_apart (kind_of Board series number) (kind_of Board other n) (λ is. differs (sym (own_series Board series other number n is))) in
+    kinds_apart (kind_of side series number) (kind_of side other n) (λ is. differs (sym (own_series side series other number n is))) in
     ap (λ xs. slice_index xs n)
     (other_set (among_all series) (among_all other) number value env (apart_among other series differs))
     ∙ ap (λ (b : Bool). if b then value else slice_index (values_in env other) n) (sym apart)
 
-put_value : (series other : SteadySeries) (number value : ℕ) (env : Environment) (n : ℕ)
+put_value : (side : Side) (series other : SteadySeries) (number value : ℕ) (env : Environment) (n : ℕ)
     → value < 2 ^ width_of 32 (among_all series)
     → number < length (values_in env series)
     → slice_index (values_in (with_value (among_all series) number value env) other) n
-    ≡ (if same_kind (kind_of Board series number) (kind_of Board other n) then value else slice_index (values_in env other) n)
-put_value series other number value env n small inside = elim (steady_or_other other series) [
+    ≡ (if same_kind (kind_of side series number) (kind_of side other n) then value else slice_index (values_in env other) n)
+put_value side series other number value env n small inside = elim (steady_or_other other series) [
   | inl is ↦
       let new = with_value (among_all series) number value env in
       subst (λ (s : SteadySeries). slice_index (values_in new s) n
-      ≡ (if same_kind (kind_of Board series number) (kind_of Board s n) then value else slice_index (values_in env s) n)) (sym is)
-      (own_put series number value env n small inside)
-  | inr differs ↦ other_put series other number value env n differs
+      ≡ (if same_kind (kind_of side series number) (kind_of side s n) then value else slice_index (values_in env s) n)) (sym is)
+      (own_put side series number value env n small inside)
+  | inr differs ↦ other_put side series other number value env n differs
 ]
 
 -- the entry of its variable is the value
-put_taken : (series : SteadySeries) (number value : ℕ) (old env new : Environment)
+put_taken : (side : Side) (series : SteadySeries) (number value : ℕ) (old env new : Environment)
     → value < 2 ^ width_of 32 (among_all series)
     → number < length (values_in env series) → HasFilled (among_all series) number old env
-    → new ≡ with_value (among_all series) number value env → HasTaken old new (kind_of Board series number) value
-put_taken series number value old env new small inside filled is =
-    taken_by old new (kind_of Board series number) value
+    → new ≡ with_value (among_all series) number value env → HasTaken side old new (kind_of side series number) value
+put_taken side series number value old env new small inside filled is =
+    taken_by side old new (kind_of side series number) value
     (λ other n.
     ap (λ (e : Environment). slice_index (values_in e other) n) is
-    ∙ put_value series other number value env n small inside
-    ∙ ap (λ v. if same_kind (kind_of Board series number) (kind_of Board other n) then value else v)
+    ∙ put_value side series other number value env n small inside
+    ∙ ap (λ v. if same_kind (kind_of side series number) (kind_of side other n) then value else v)
     (filled.values (among_all other) n))
 
 -- so is that of each kind that stands for a value of the list
-pub put_named : (kind : WordKind) (series : Series) (number value : ℕ) (old env new : Environment)
-    → series_of_kind Board kind ≡ Some (series, number) → value < 2 ^ width_of 32 series
+pub put_named : (side : Side) (kind : WordKind) (series : Series) (number value : ℕ) (old env new : Environment)
+    → series_of_kind side kind ≡ Some (series, number) → value < 2 ^ width_of 32 series
     → number < length (values_of env series) → HasFilled series number old env
-    → new ≡ with_value series number value env → HasTaken old new kind value
-put_named kind series number value old env new named small inside filled is =
-    let list = any_named Board kind (series, number) named in
-    subst (λ (k : WordKind). HasTaken old new k value) (sym list.2)
-    (put_taken list.0 number value old env new
+    → new ≡ with_value series number value env → HasTaken side old new kind value
+put_named side kind series number value old env new named small inside filled is =
+    let list = any_named side kind (series, number) named in
+    subst (λ (k : WordKind). HasTaken side old new k value) (sym list.2)
+    (put_taken side list.0 number value old env new
     (subst (λ (s : Series). value < 2 ^ width_of 32 s) list.1 small)
     (subst (λ (s : Series). number < length (values_of env s)) list.1 inside)
     (subst (λ (s : Series). HasFilled s number old env) list.1 filled)

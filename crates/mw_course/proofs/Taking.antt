@@ -6,7 +6,7 @@ use Rattle.std.proofs.Math.Pow.{pow_mono}
 use Rattle.std.proofs.lemmas.List.{map-append, take_more}
 use Rattle.std.proofs.lemmas.List.Elements.{filter-append}
 use Rattle.std.proofs.lemmas.Option.{get_or_from_slice_get, slice_get_read, slice_get_within}
-use Rattle.mw_term.specs.declared.side.Side.TheVariants.{Board}
+use Rattle.mw_term.specs.declared.side.Side.{Side}
 use Rattle.mw_board.specs.declared.parts.BoardParts.{BoardParts}
 use Rattle.mw_cycle.specs.Boundary.{numbers}
 use Rattle.mw_cycle.specs.SteadySeries.{Series}
@@ -25,7 +25,7 @@ use Rattle.mw_symmem.proofs.Lists.{absent, behind, term_plain, term_variable}
 use Rattle.mw_symboard.specs.Variables.{HaveVariables}
 use Rattle.mw_rel.proofs.Completed.{numbers_more}
 use Rattle.mw_course.specs.Begins.{value_or_zero}
-use Rattle.mw_course.specs.Entries.{entry, is_outside}
+use Rattle.mw_course.specs.Entries.{HasEntries, entry}
 use Rattle.mw_course.proofs.Placing.{entry_none}
 
 -- ---- the values of free elements
@@ -124,10 +124,10 @@ taken_next words place w at =
 -- ---- the widths of the variables
 
 -- the value of a variable of an environment is a value of its list
-pub value_fits : (board : BoardParts) (t : Table) (words : List Word) (cycles term : ℕ) (given : Given)
-    (series : Series) (n : ℕ) → board.width ≤ 32 → IsTable t → HaveVariables Board board t words cycles
-    → term_of words (kind_of Board series n) ≡ Some term → term_value t given term < 2 ^ width_of 32 series
-value_fits board t words cycles term given series n narrow table have is =
+pub value_fits : (side : Side) (board : BoardParts) (t : Table) (words : List Word) (cycles term : ℕ) (given : Given)
+    (series : Series) (n : ℕ) → board.width ≤ 32 → IsTable t → HaveVariables side board t words cycles
+    → term_of words (kind_of side series n) ≡ Some term → term_value t given term < 2 ^ width_of 32 series
+value_fits side board t words cycles term given series n narrow table have is =
     let bits = width_of board.width series in
     let below : term_value t given term < 2 ^ bits =
     value_within t given bits term table (have.widths series n term is) in
@@ -135,8 +135,8 @@ value_fits board t words cycles term given series n narrow table have is =
     omega (arith, below, most)
 
 -- a kind whose variable isn't there has no value yet
-pub entry_fresh : (env : Environment) (t : Table) (given : Given) (words : List Word) (kind : WordKind)
-    → ((k : WordKind) → is_outside k ≡ true → entry env k ≡ value_or_zero t given (term_of words k))
-    → term_of words kind ≡ None → entry env kind ≡ 0
-entry_fresh env t given words kind entries none =
-    entry_none env kind (λ outside. entries kind outside ∙ ap (value_or_zero t given) none)
+pub entry_fresh : (side : Side) (env : Environment) (t : Table) (given : Given) (words : List Word) (kind : WordKind)
+    → HasEntries side t words given env
+    → term_of words kind ≡ None → entry side env kind ≡ 0
+entry_fresh side env t given words kind entries none =
+    entry_none side env kind (λ outside. entries kind outside ∙ ap (value_or_zero t given) none)

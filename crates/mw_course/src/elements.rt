@@ -12,13 +12,14 @@ ghost use Rattle.mw_rel.specs.Rules.{IsLineOf};
 ghost use Rattle.mw_rel.specs.Seen.{line_of, lines_of};
 ghost use Rattle.mw_rel.specs.StartWords.{all_own_words, line_words, lines_words, start_words};
 ghost use Rattle.mw_rel.specs.Views.{job_of};
-ghost use Rattle.mw_course.specs.Boundaries.{AreElements, AreWide, AreWideSoFar, IsElementBelow, IsSpace};
+ghost use Rattle.mw_course.specs.Boundaries.{AreElements, AreWide, AreWideSoFar, IsElementBelow, IsSpace, IsSpaceOf};
 ghost use Rattle.mw_course.specs.Listed.{all_ended, list_of_space};
 ghost use Rattle.mw_course.specs.OnWay.{ground_in};
 ghost use Rattle.mw_course.specs.OwnTerms.{AreOwn, AreRelated, IsOwn, IsRelated, own_word, with_own};
 ghost use Rattle.mw_course.specs.Starts.{IsGround};
 
 use mw_base::NoMemory;
+use mw_board::Board;
 use mw_rel::{Job, Line, free};
 use mw_symmach::expr_term;
 use mw_symmem::{Side, SymMemory, Words, are_of_at_first, is_memory_at_first};
@@ -37,9 +38,13 @@ pub struct Space {
 }
 
 impl Space {
-    /// No term and no word, and a memory that wasn't read.
-    fn new(alloc: Global, job: &Job) -> Result<Space, NoMemory>
-        ensures space { IfOk result (λ s. IsSpace (job_of job.now) s.terms s.words s.memory) }
+    /// No term and no word, and a memory that wasn't read, over the map of a board.
+    ///
+    /// # Errors
+    ///
+    /// Memory ran out.
+    pub fn new(alloc: Global, board: &Board) -> Result<Space, NoMemory>
+        ensures space { IfOk result (λ s. IsSpaceOf board.now s.terms s.words s.memory) }
         ensures words { IfOk result (λ s. s.words ≡ []) }
         ensures reads { IfOk result (λ s. s.memory.reads ≡ []) }
         ensures unwritten { IfOk result (λ s. (s.memory.board ≡ []) × (s.memory.machine ≡ [])) }
@@ -48,7 +53,7 @@ impl Space {
         // Laws for the proof: no words are those of a table without terms, and a new memory is one over them.
         are_of_at_first();
         is_memory_at_first();
-        let parts = job.board.parts();
+        let parts = board.parts();
         Ok(Space {
             terms: Written::new(alloc, parts.map_entries.as_slice())?,
             words: Words::new(alloc),
@@ -269,7 +274,7 @@ pub fn elements_at(alloc: Global, job: &Job, boundary: usize) -> Result<Elements
     ensures listed { IfOk result (λ e. start_words (job_of job.now).relation.shape (numbered (job_of job.now) boundary)
         ≡ all_ended e.terms.items (list_of_space e.space)) }
 {
-    let mut space = Space::new(alloc, job)?;
+    let mut space = Space::new(alloc, &job.board)?;
     let own = own_terms(alloc, job, boundary, &mut space)?;
     let mut terms = Vec::from_slice(alloc, &own)?;
     let lines = job.boundary(boundary).lines.as_slice();

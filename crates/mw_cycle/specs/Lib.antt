@@ -21,3 +21,4 @@ pub mod ReadingWords
 pub mod LeavingWords
 pub mod EdgeWords
 pub mod CycleWords
+pub mod SegmentWords

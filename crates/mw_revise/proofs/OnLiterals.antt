@@ -17,7 +17,7 @@ use Rattle.mw_cycle.specs.Boundary.{first_segment}
 use Rattle.mw_cycle.specs.LeavingWords.{leaving_words}
 use Rattle.mw_cycle.specs.ReadingWords.{reading_words}
 use Rattle.mw_revise.specs.Examples.{speaking_board}
-use Rattle.mw_revise.specs.SegmentWords.{segment_words}
+use Rattle.mw_cycle.specs.SegmentWords.{segment_words}
 use Rattle.mw_revise.specs.TwinCase.{bits_of_cycles, twin_case}
 use Rattle.mw_revise.specs.TwinComparisonWords.{twin_comparison_words}
 use Rattle.mw_revise.specs.TwinDiffers.{difference_at, twin_difference}

@@ -15,7 +15,6 @@ pub mod Laws
 pub mod Examples
 pub mod TwinText
 pub mod TwinStartWords
-pub mod SegmentWords
 pub mod TwinComparisonWords
 pub mod TwinWords
 pub mod TwinBudgets

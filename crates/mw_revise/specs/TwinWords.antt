@@ -2,15 +2,15 @@
 -- comparison, along the decided bits that are known.
 use Rattle.std.specs.Prelude.{ℕ, List, [], Bool, Option, Some, None}
 use Rattle.mw_cycle.specs.BoardTerms.{Standing}
+use Rattle.mw_cycle.specs.SegmentWords.{Segment, SegmentEnd, segment_words}
+use Rattle.mw_cycle.specs.SegmentWords.SegmentEnd.{wants, reaches, passes}
 use Rattle.mw_rel.specs.CaseWords.{CaseWords, bit_values, parts_with, stopped, whole}
 use Rattle.mw_rel.specs.ComparisonWords.{Compared, compared_in}
 use Rattle.mw_rel.specs.WordTree.{WordTree}
 use Rattle.mw_revise.specs.declared.keep.Block.{Block}
 use Rattle.mw_revise.specs.declared.programs.Side.{Side}
 use Rattle.mw_revise.specs.declared.programs.Side.TheVariants.{Old, New}
-use Rattle.mw_revise.specs.Revision.{Revision, block_at}
-use Rattle.mw_revise.specs.SegmentWords.{Segment, SegmentEnd, segment_words}
-use Rattle.mw_revise.specs.SegmentWords.SegmentEnd.{wants, reaches, passes}
+use Rattle.mw_revise.specs.Revision.{Revision, addresses_of, block_at, store_of}
 use Rattle.mw_revise.specs.Sites.{address_on}
 use Rattle.mw_revise.specs.TwinComparisonWords.{twin_comparison_words}
 use Rattle.mw_revise.specs.TwinStartWords.{twin_start_words}
@@ -39,6 +39,11 @@ standing_on side revision block terms line = record {
   line = line;
 }
 
+-- the words of the first segment of a program from a block
+abbrev pub first_words : Side → Revision → Block → Standing → List Bool → WordList → Segment
+first_words side revision block s bits l =
+    segment_words revision.board (store_of side revision) (addresses_of side revision) block.bound s bits l
+
 -- the comparison at the boundary that the old program has reached; a segment ends at one, so there is one
 abbrev pub compared_at : Revision → Option Block → (old_ended new_ended : Standing) → WordList → Compared
 compared_at revision None old_ended new_ended l = compared_in l []
@@ -57,8 +62,8 @@ behind_new reaches revision old_ended segment =
 abbrev pub along_new : Revision → Block → (terms : List ℕ) → Segment → CaseWords
 along_new revision block terms old_segment =
     let line = term_of old_segment.list.words (Line 0) in
-    let new_segment = segment_words New revision block.bound (standing_on New revision block terms line)
-    old_segment.bits old_segment.list in
+    let new_segment = first_words New revision block (standing_on New revision block terms line) old_segment.bits
+    old_segment.list in
     behind_new new_segment.ends revision old_segment.to new_segment
 
 -- behind the old segment, or at the bit that it wants; where it is late the list ends
@@ -71,8 +76,8 @@ behind_old reaches revision block terms segment = along_new revision block terms
 unfoldable pub twin_words_along : Revision → Block → List Bool → CaseWords
 twin_words_along revision block bits =
     let start = twin_start_words revision.board block.lines in
-    let old_segment = segment_words Old revision block.bound (standing_on Old revision block start.old_terms None)
-    bits start.list in
+    let old_segment = first_words Old revision block (standing_on Old revision block start.old_terms None) bits
+    start.list in
     behind_old old_segment.ends revision block start.new_terms old_segment
 
 -- the word lists of twin cases at a block, along decided bits

@@ -20,7 +20,7 @@ use Rattle.mw_cycle.specs.SteadySeries.{Series}
 use Rattle.mw_cycle.specs.SteadySeries.{Inputs}
 use Rattle.mw_cycle.specs.SteadySeries.{goes_by_cycle, kind_of, series_of_kind, width_of}
 use Rattle.mw_cycle.specs.SteadyEnvironment.{Environment, values_of, with_lists}
-use Rattle.mw_cycle.proofs.Named.{kind_named, no_input, series_of_kind_back}
+use Rattle.mw_cycle.proofs.Named.{kind_named, series_of_kind_back}
 use Rattle.mw_cycle.proofs.SteadyLists.{lists_are_environment, lists_back}
 use Rattle.mw_symmem.specs.Memory.{Memory, IsOfWidth}
 use Rattle.mw_symmem.specs.Words.{AreOf, HaveOwnKinds, IsVariable}
@@ -34,10 +34,10 @@ use Rattle.mw_symboard.specs.Laws.{IsEnvironmentOf}
 use Rattle.mw_symboard.specs.Seen.{Progress}
 use Rattle.mw_symboard.specs.Turns.{HasRead}
 use Rattle.mw_symboard.specs.Variables.{CyclesAreThere, CyclesStay, EnvironmentsAreReached, EnvironmentsAreThere}
-use Rattle.mw_symboard.specs.Variables.{EnvironmentsStay, HaveVariables, IsOutsideKind, IsOutsideNumber, IsReadKind}
+use Rattle.mw_symboard.specs.Variables.{EnvironmentsStay, HaveVariables, IsOutsideKind, IsKindOfOthers, IsOutsideNumber}
 use Rattle.mw_symboard.specs.Variables.{VariablesHaveValues}
 use Rattle.mw_symboard.proofs.Runs.{variable_of}
-use Rattle.mw_symboard.proofs.VariableWidths.{no_base, not_behind}
+use Rattle.mw_symboard.proofs.VariableWidths.{not_behind}
 use Rattle.mw_symboard.proofs.Variables.{none_kind}
 
 cycles_begun : (board : BoardParts) (store : List ℕ) (t : Table) (words : List Word) (m : Memory) (p : Progress)
@@ -50,31 +50,24 @@ pub cycles_are_there : CyclesAreThere
 cycles_are_there board store t words m o symbolic =
     cycles_begun board store t words m o.place o.reading symbolic.widths symbolic.reading
 
-no_read : (side : Side) (series : Series) (n : ℕ) → goes_by_cycle series ≡ true → IsReadKind (kind_of side series n)
-    → ⊥
-no_read side series n by is = elim is [
-  | inl h ↦ no_base side series n h.0 h.1
-  | inr h ↦ no_input side series n h.0 by h.1
-]
-
 -- what isn't among new words was there
 none_new : (side : Side) (wold wnew more : List Word) (series : Series) (n : ℕ) → wnew ≡ wold ++ more
-    → HaveKinds IsReadKind more → goes_by_cycle series ≡ true
+    → HaveKinds (IsKindOfOthers side) more → goes_by_cycle series ≡ true
     → term_of wnew (kind_of side series n) ≡ term_of wold (kind_of side series n)
 none_new side wold wnew more series n words kinds by =
     ap (λ (ws : List Word). term_of ws (kind_of side series n)) words
     ∙ not_behind wold more (kind_of side series n)
-    (none_kind IsReadKind more (kind_of side series n) kinds (no_read side series n by))
+    (none_kind (IsKindOfOthers side) more (kind_of side series n) kinds (λ other. other series n by refl))
 
 width_read : (side : Side) (board : BoardParts) (told tnew : Table) (wold wnew more : List Word) (series : Series)
-    → IsLater told tnew → wnew ≡ wold ++ more → HaveKinds IsReadKind more → goes_by_cycle series ≡ true
+    → IsLater told tnew → wnew ≡ wold ++ more → HaveKinds (IsKindOfOthers side) more → goes_by_cycle series ≡ true
     → HaveWidth side board told wold series → HaveWidth side board tnew wnew series
 width_read side board told tnew wold wnew more series later words kinds by widths n term is =
     width_stays told tnew (width_of board.width series) term later.extends later.keeps
     (widths n term (sym (none_new side wold wnew more series n words kinds by) ∙ is))
 
 widths_read : (side : Side) (board : BoardParts) (told tnew : Table) (wold wnew more : List Word)
-    → IsLater told tnew → wnew ≡ wold ++ more → HaveKinds IsReadKind more → AreInputs board tnew wnew
+    → IsLater told tnew → wnew ≡ wold ++ more → HaveKinds (IsKindOfOthers side) more → AreInputs board tnew wnew
     → HaveWidths side board told wold → HaveWidths side board tnew wnew
 widths_read side board told tnew wold wnew more later words kinds inputs widths Inputs = inputs
 widths_read side board told tnew wold wnew more later words kinds inputs widths series =

@@ -103,6 +103,7 @@ pub record IsBeginning (side : Side) (address sp : ℕ) (line : Option ℕ) (o :
   pub events : o.events ≡ []
   pub asked : o.asked ≡ None
   pub reading : o.reading ≡ None
+  pub leaving : o.leaving ≡ None
 
 -- A board that has done nothing is in each run that begins with its terms, while its side has written nothing, and whose
 -- first line has the value of the term that was there before.

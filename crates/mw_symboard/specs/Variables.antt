@@ -1,9 +1,8 @@
 -- The variables of the cycles of a run, and the environments and assignments that go with one another.
-use Rattle.std.specs.Prelude.{◌≡◌, ℕ, ◌+◌, ◌%◌, ◌^◌, ◌<◌, ◌⊎◌, ◌++◌, List, length, true, Some}
+use Rattle.std.specs.Prelude.{◌≡◌, ◌≢◌, ℕ, ◌+◌, ◌%◌, ◌^◌, ◌<◌, ◌++◌, List, length, true, Some}
 use Rattle.mw_board.specs.declared.parts.BoardParts.{BoardParts}
 use Rattle.mw_cycle.specs.SteadyEnvironment.{Environment, IsEnvironment}
 use Rattle.mw_term.specs.declared.kinds.WordKind.{WordKind}
-use Rattle.mw_term.specs.declared.kinds.WordKind.TheVariants.{Base, Input}
 use Rattle.mw_term.specs.declared.side.Side.{Side}
 use Rattle.mw_term.specs.declared.word.Word.{Word}
 use Rattle.mw_term.specs.Assigned.{Given}
@@ -31,15 +30,15 @@ CyclesAreThere =
     (board : BoardParts) (store : List ℕ) (t : Table) (words : List Word) (m : Memory) (o : Symbolic)
     → IsSymbolic board store t words m o → (cycles : ℕ) × HaveVariables o.place.side board t words cycles
 
--- variables of base reads and of inputs, which other parts may make between two cycles
-abbrev pub IsReadKind : WordKind → Type 0
-IsReadKind kind = ((n : ℕ) × (kind ≡ Base n)) ⊎ ((n : ℕ) × (kind ≡ Input n))
+-- no variable of a list of the board of a side that goes by cycle: of a base read, of an input, of the other side's board
+abbrev pub IsKindOfOthers : Side → WordKind → Type 0
+IsKindOfOthers side kind = (series : Series) (n : ℕ) → goes_by_cycle series ≡ true → kind ≢ kind_of side series n
 
--- So it stays, while only variables of base reads and inputs are made.
+-- So it stays, while only such variables are made.
 abbrev pub CyclesStay : Type 0
 CyclesStay =
     (side : Side) (board : BoardParts) (told tnew : Table) (wold wnew more : List Word) (cycles : ℕ)
-    → IsLater told tnew → wnew ≡ wold ++ more → HaveKinds IsReadKind more → AreInputs board tnew wnew
+    → IsLater told tnew → wnew ≡ wold ++ more → HaveKinds (IsKindOfOthers side) more → AreInputs board tnew wnew
     → HaveVariables side board told wold cycles → HaveVariables side board tnew wnew cycles
 
 -- A variable has the value that the assignment gives its number, cut to its width.

@@ -182,7 +182,9 @@ impl SymBoard {
 
     /// A board beside another, like one that `new` makes; but it reads and writes the machine's side of the memory, its
     /// variables are those of a board beside another, and the line of its first cycle is this term of one bit, so that
-    /// no variable stands for it. Inputs have the other board's variables, by their numbers.
+    /// no variable stands for it. Inputs have the other board's variables, by their numbers. It may go on where the words
+    /// have no line and no noise of a board beside another, and what `new` says holds; the other board's words may be
+    /// there.
     ///
     /// # Errors
     ///

@@ -51,8 +51,8 @@ pub fn paths_are_of_the_run()
 {}
 
 /// The law of variables: a variable has the value that the assignment gives its number. Of a board on terms there is a
-/// number of cycles beyond those of all its variables; they have the widths of their lists; and so it stays while only
-/// variables of base reads and inputs come.
+/// number of cycles beyond those of all its variables; they have the widths of their lists; and so it stays while no
+/// variable of its side's line or noise comes.
 pub fn variables_are_there()
     ensures values { VariablesHaveValues }
     ensures cycles { CyclesAreThere }
@@ -60,8 +60,8 @@ pub fn variables_are_there()
 {}
 
 /// The law of environments: for every assignment there is an environment without waits that has the values of the
-/// variables of its lists; for every environment without waits there is an assignment under which it has them, which differs from a given one in these
-/// variables alone; and it has them under each assignment that differs in others alone.
+/// variables of its lists; for every environment without waits there is an assignment under which it has them, which
+/// differs from a given one in these variables alone; and it has them under each assignment that differs in others alone.
 pub fn environments_are_there()
     ensures there { EnvironmentsAreThere }
     ensures reached { EnvironmentsAreReached }

@@ -3,7 +3,8 @@
 /// What a variable word of a run stands for.
 #[derive(Clone, Copy, Debug, PartialEq, Eq)]
 pub enum WordKind {
-    /// A free element of the board or of the described machine, by its number.
+    /// A free element of the board or of what it is compared with, by its number: the described machine's registers, or
+    /// the elements of a board beside it, have the numbers behind the board's.
     Element(u32),
     /// The interrupt line in the cycle of this number.
     Line(u32),

@@ -5,6 +5,6 @@
 pub enum Side {
     /// The board's.
     Board,
-    /// The described machine's.
+    /// The described machine's, or that of a board beside another.
     Machine,
 }

@@ -1,8 +1,21 @@
+use Rattle.std.proofs.Common.{arith}
 use Rattle.mw_term.specs.Assigned.{given_by}
 use Rattle.mw_rel.specs.Begin.{Begin}
 use Rattle.mw_rel.specs.Views.{job_of}
 use Rattle.mw_course.proofs.Begun.{assigned_by, start_begun}
 use Rattle.mw_course.proofs.begin.begin_of.Goals as goal
+
+pub environment_of-requires-clause-workspace : goal.environment_of-requires-clause-workspace
+environment_of-requires-clause-workspace c = c.requires.stands.1.space.workspace
+
+pub environment_of-requires-clause-variables : goal.environment_of-requires-clause-variables
+environment_of-requires-clause-variables c =
+    let ground = c.requires.stands.1 in (
+      (job_of c.args.job.now).board,
+      ground.cycles,
+      omega (arith, ground.space.word, ground.space.workspace.memory.word.1),
+      ground.variables,
+    )
 
 pub returns-clause-assigned : goal.returns-clause-assigned
 returns-clause-assigned c =

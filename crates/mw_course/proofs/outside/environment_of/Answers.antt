@@ -1,6 +1,5 @@
 use Rattle.std.proofs.Common.{ap, sym, take, ◌∙◌, arith}
 use Rattle.std.specs.Prelude.{if◌then◌else◌}
-use Rattle.mw_term.specs.declared.side.Side.TheVariants.{Board}
 use Rattle.mw_cycle.specs.SteadySeries.{kind_of}
 use Rattle.mw_term.specs.Assigned.{given_by}
 use Rattle.mw_term.specs.Values.{term_value}
@@ -9,7 +8,7 @@ use Rattle.mw_symboard.proofs.Environments.{own_found}
 use Rattle.mw_course.specs.Begins.{value_or_zero}
 use Rattle.mw_course.proofs.Taking.{entry_fresh, new_at, taken_next, value_fits, value_next, word_named}
 use Rattle.mw_course.proofs.Taking.{word_read}
-use Rattle.mw_course.proofs.begin.environment.Goals as goal
+use Rattle.mw_course.proofs.outside.environment_of.Goals as goal
 
 pub take_word-requires-clause-fresh : goal.take_word-requires-clause-fresh
 take_word-requires-clause-fresh c = λ kind is.
@@ -18,7 +17,7 @@ take_word-requires-clause-fresh c = λ kind is.
     let w = c.word-item.result in
     let slice = c.as_slice-word-items in
     let at = word_read words slice.result.now i w slice.ensures.exact c.loop-word-test.true c.word-item.is in
-    entry_fresh _ c.args.space.now.terms (given_by c.args.given.now) (take i words) kind c.loop-word.invariant.entries
+    entry_fresh c.args.side _ c.args.space.now.terms (given_by c.args.given.now) (take i words) kind c.loop-word.invariant.entries
     (new_at words i w kind slice.ensures.own at is)
 
 pub take_word-requires-clause-width : goal.take_word-requires-clause-width
@@ -28,11 +27,10 @@ take_word-requires-clause-width c = λ series n is.
     let w = c.word-item.result in
     let slice = c.as_slice-word-items in
     let at = word_read words slice.result.now i w slice.ensures.exact c.loop-word-test.true c.word-item.is in
-    let ground = c.requires.3 in
-    let work = ground.space.workspace in
-    value_fits c.requires.0.board c.args.space.now.terms words ground.cycles w.term (given_by c.args.given.now) series n
-    (omega (arith, ground.space.word, work.memory.word.1)) work.table ground.variables
-    (own_found words i w.term (kind_of Board series n) slice.ensures.own (word_named words i w (kind_of Board series n) at is))
+    let have = c.requires.variables in
+    let kind = kind_of c.args.side series n in
+    value_fits c.args.side have.0 c.args.space.now.terms words have.1 w.term (given_by c.args.given.now) series n have.2
+    c.requires.workspace.table have.3 (own_found words i w.term kind slice.ensures.own (word_named words i w kind at is))
 
 pub loop-word-preserved : goal.loop-word-preserved
 loop-word-preserved c =

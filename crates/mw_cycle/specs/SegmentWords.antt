@@ -1,13 +1,12 @@
--- The words of the first segment of one of both programs, along decided bits.
+-- The words of a segment of a board: its cycles up to the first boundary, along decided bits.
 use Rattle.std.specs.Prelude.{ℕ, zero, suc, List, Bool, if◌then◌else◌, Option, Some, None}
+use Rattle.mw_board.specs.declared.parts.BoardParts.{BoardParts}
 use Rattle.mw_cycle.specs.BoardTerms.{Standing}
 use Rattle.mw_cycle.specs.Boundary.{is_named}
 use Rattle.mw_cycle.specs.CycleWords.{Come, cycle_words}
-use Rattle.mw_revise.specs.declared.programs.Side.{Side}
-use Rattle.mw_revise.specs.Revision.{Revision, store_of, addresses_of}
 use Rattle.mw_term.specs.WordList.{WordList}
 
--- how they end: at the term of a bit that they want, at a boundary, or behind the bound's number of cycles
+-- how they end: at the term of a bit that they want, at a boundary, or behind as many cycles as there may be
 pub data SegmentEnd : Type 0 where
   wants : (term : ℕ) → SegmentEnd
   reaches : SegmentEnd
@@ -24,7 +23,7 @@ pub record Segment : Type 0 where
 abbrev pub ended_by : SegmentEnd → Standing → List Bool → WordList → Segment
 ended_by ends s bits l = record { list = l; to = s; bits = bits; ends = ends }
 
--- behind a cycle, or at the bit that it wants: at a boundary of its program it ends, and else stands what is further
+-- behind a cycle, or at the bit that it wants: at the address of a boundary it ends, and else stands what is further
 abbrev pub behind_cycle : (addresses : List ℕ) → (asked : Option ℕ) → Come
     → (further : Standing → List Bool → WordList → Segment) → Segment
 behind_cycle addresses (Some term) come further = ended_by (wants term) come.to come.bits come.list
@@ -32,9 +31,10 @@ behind_cycle addresses None come further =
     if is_named addresses come.to.at then ended_by reaches come.to come.bits come.list
     else further come.to come.bits come.list
 
--- so many cycles of a program, where no boundary comes before
-unfoldable pub segment_words : Side → Revision → (count : ℕ) → Standing → List Bool → WordList → Segment
-segment_words side revision zero s bits l = ended_by passes s bits l
-segment_words side revision (suc count) s bits l =
-    let come = cycle_words revision.board (store_of side revision) s bits l in
-    behind_cycle (addresses_of side revision) come.asked come (segment_words side revision count)
+-- so many cycles, where no boundary comes before
+unfoldable pub segment_words : BoardParts → (store : List ℕ) → (addresses : List ℕ) → (count : ℕ) → Standing
+    → List Bool → WordList → Segment
+segment_words board store addresses zero s bits l = ended_by passes s bits l
+segment_words board store addresses (suc count) s bits l =
+    let come = cycle_words board store s bits l in
+    behind_cycle addresses come.asked come (segment_words board store addresses count)

@@ -1,6 +1,6 @@
 use Rattle.std.proofs.Common.{arith}
 use Rattle.mw_course.proofs.Placing.{one_filled, put_named, put_trimmed, put_waits}
-use Rattle.mw_course.proofs.begin.put.Goals as goal
+use Rattle.mw_course.proofs.outside.put.Goals as goal
 
 pub loop-env-preserved : goal.loop-env-preserved
 loop-env-preserved c = record {
@@ -9,8 +9,8 @@ loop-env-preserved c = record {
 }
 
 pub returns-clause-took : goal.returns-clause-took
-returns-clause-took c = λ kind named.
-    put_named kind c.args.series c.args.number c.args.value c.args.env.now c.loop-env.env c.set.new.self named
+returns-clause-took c = λ side kind named.
+    put_named side kind c.args.series c.args.number c.args.value c.args.env.now c.loop-env.env c.set.new.self named
     c.requires.width (omega (arith, c.length.ensures, c.loop-env-test.false)) c.loop-env.invariant.filled
     c.set.ensures
 
