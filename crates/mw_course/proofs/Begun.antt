@@ -28,68 +28,25 @@ use Rattle.mw_rel.specs.Job.{Job, IsJob}
 use Rattle.mw_ready.specs.Thinned.{always_ready}
 use Rattle.mw_rel.specs.SteadyStart.{Start}
 use Rattle.mw_symboard.proofs.Environments.{own_found}
-use Rattle.mw_course.specs.declared.elements.Space.{Space}
+use Rattle.mw_segment.specs.declared.space.Space.{Space}
 use Rattle.mw_course.specs.Begins.{IsAssigned, IsChosen, kind_value, value_or_zero}
 use Rattle.mw_course.specs.Boundaries.{IsSpace}
-use Rattle.mw_course.specs.Entries.{HasEntries, but_waits}
+use Rattle.mw_segment.specs.Entries.{HasEntries, but_waits}
 use Rattle.mw_course.specs.Listed.{list_of_space}
 use Rattle.mw_course.specs.OnWay.{ground_in}
 use Rattle.mw_course.specs.Starts.{Ground, IsGround, StandsForStart}
 use Rattle.mw_course.proofs.FreeValues.{term_at}
 use Rattle.mw_course.proofs.Grounds.{start_with}
-use Rattle.mw_course.proofs.Placing.{entry_of, outside_of}
+use Rattle.mw_segment.proofs.Environments.{environment_of, listed}
 use Rattle.mw_course.proofs.Taking.{free_same}
 
 -- the value of an element's variable
 abbrev pub own_value : Table → List Word → Given → (e : ℕ) → ℕ
 own_value t words given e = value_or_zero t given (term_of words (Element e))
 
-value_below : (t : Table) (given : Given) (o : Option ℕ) (width : ℕ) → IsTable t
-    → ((term : ℕ) → o ≡ Some term → IsOfWidth t width term) → value_or_zero t given o < 2 ^ width
-value_below t given None width table wide = pow_pos width
-value_below t given (Some term) width table wide = value_within t given width term table (wide term refl)
-
--- each value of its lists is that of its variable
-listed : (side : Side) (t : Table) (words : List Word) (given : Given) (env : Environment) (series : Series) (n : ℕ)
-    → HasEntries side t words given env
-    → slice_index (values_of env (among_all series)) n ≡ value_or_zero t given (term_of words (kind_of side series n))
-listed side t words given env series n entries =
-    sym (entry_of side env series n) ∙ entries (kind_of side series n) (outside_of side series n)
-
--- its lists but that of the waits are all that it has without waits
-lists_same : (env : Environment) (series : Series)
-    → steady_values_of (but_waits env) series ≡ values_of env (among_all series)
-lists_same env Inputs = refl
-lists_same env Line = refl
-lists_same env Noise = refl
-
 -- where no clock waits, they are all that it has
 without_waits : (env : Environment) → env.wait ≡ [] → never_waiting (but_waits env) ≡ env
 without_waits env none = rw none refl
-
-listed_steady : (side : Side) (t : Table) (words : List Word) (given : Given) (env : Environment) (series : Series) (n : ℕ)
-    → HasEntries side t words given env
-    → slice_index (steady_values_of (but_waits env) series) n
-    ≡ value_or_zero t given (term_of words (kind_of side series n))
-listed_steady side t words given env series n entries =
-    ap (λ xs. slice_index xs n) (lists_same env series) ∙ listed side t words given env series n entries
-
--- it is one of the assignment
-environment_of : (side : Side) (board : BoardParts) (t : Table) (words : List Word) (cycles : ℕ) (given : Given) (env : Environment)
-    → IsTable t → HaveOwnKinds words → HaveVariables side board t words cycles → HasEntries side t words given env
-    → IsEnvironmentOf side board t words given (but_waits env)
-environment_of side board t words cycles given env table own have entries = record {
-  within = record {
-    values = λ series i.
-        (let bits = width_of board.width series in
-        subst (λ v. v < 2 ^ bits) (sym (listed_steady side t words given env series i entries))
-        (value_below t given (term_of words (kind_of side series i)) bits table
-        (have.widths series i)));
-  };
-  values = λ series n place term is.
-      listed_steady side t words given env series n entries
-      ∙ ap (value_or_zero t given) (own_found words place term (kind_of side series n) own is);
-}
 
 -- the variables of the free elements have the values of their terms
 free_are : (job : Job) (number : ℕ) (g : Ground) (given : Given) → IsGround job number g

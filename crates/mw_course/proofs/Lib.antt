@@ -15,7 +15,6 @@ pub mod Named
 pub mod OnRun
 pub mod OnStep
 pub mod OwnTerms
-pub mod Placing
 pub mod Prefixes
 pub mod Related
 pub mod Runs

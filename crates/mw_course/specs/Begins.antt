@@ -1,5 +1,5 @@
 -- The start that an assignment gives.
-use Rattle.std.specs.Prelude.{◌≡◌, ℕ, [], map, Option, Some, None, slice_index}
+use Rattle.std.specs.Prelude.{◌≡◌, ℕ, [], map, slice_index}
 use Rattle.mw_term.specs.declared.side.Side.TheVariants.{Board}
 use Rattle.mw_cycle.specs.Environment.{values_of}
 use Rattle.mw_cycle.specs.SteadySeries.{Series, among_all, kind_of}
@@ -13,14 +13,9 @@ use Rattle.mw_term.specs.declared.kinds.WordKind.{WordKind}
 use Rattle.mw_term.specs.declared.kinds.WordKind.TheVariants.{Element}
 use Rattle.mw_term.specs.Assigned.{Given}
 use Rattle.mw_term.specs.Table.{Table}
-use Rattle.mw_term.specs.Values.{term_value}
 use Rattle.mw_term.specs.WordList.{WordList, table_in, term_of}
 use Rattle.mw_symmem.specs.Memory.{base_word}
-
--- what a term has under an assignment; 0 where there is none
-abbrev pub value_or_zero : Table → Given → Option ℕ → ℕ
-value_or_zero t given (Some term) = term_value t given term
-value_or_zero t given None = 0
+pub use Rattle.mw_segment.specs.Entries.{value_or_zero}
 
 -- what a list's variable of a kind has under an assignment
 abbrev pub kind_value : Table → WordList → Given → WordKind → ℕ

@@ -1,6 +1,5 @@
 -- The terms of all elements at a boundary, and what they are terms of.
 use Rattle.std.specs.Prelude.{◌≡◌, ℕ, ◌<◌, ◌≤◌, List, length, slice_index}
-use Rattle.mw_board.specs.declared.parts.BoardParts.{BoardParts}
 use Rattle.mw_term.specs.declared.kinds.WordKind.{WordKind}
 use Rattle.mw_term.specs.declared.kinds.WordKind.TheVariants.{Base, Element}
 use Rattle.mw_term.specs.declared.word.Word.{Word}
@@ -8,15 +7,9 @@ use Rattle.mw_term.specs.Table.{Table}
 use Rattle.mw_symmem.specs.Memory.{Memory, IsOfWidth}
 use Rattle.mw_symmem.specs.Workspace.{HaveKinds, IsWorkspace}
 use Rattle.mw_rel.specs.Job.{Job}
+pub use Rattle.mw_segment.specs.Spaces.{IsSpaceOf}
 
--- a table with a board's map, the words of its terms, and a memory with the board's widths over them
-pub record IsSpaceOf (board : BoardParts) (t : Table) (words : List Word) (m : Memory) : Type 0 where
-  pub map : t.map ≡ board.map_entries
-  pub address : m.address ≡ board.address
-  pub word : m.word ≡ board.width
-  pub workspace : IsWorkspace t words m
-
--- the same of a job's board
+-- a table with the map of a job's board, the words of its terms, and a memory with the board's widths over them
 abbrev pub IsSpace : Job → Table → List Word → Memory → Type 0
 IsSpace job t words m = IsSpaceOf job.board t words m
 

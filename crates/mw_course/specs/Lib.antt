@@ -4,7 +4,6 @@ pub mod CasePaths
 pub mod EndsEach
 pub mod Courses
 pub mod Ends
-pub mod Entries
 pub mod Listed
 pub mod OnWay
 pub mod OwnTerms

@@ -14,7 +14,8 @@ use Rattle.mw_rel.specs.Free.{numbered}
 use Rattle.mw_rel.specs.Job.{Job}
 use Rattle.mw_rel.specs.Start.{addresses_of}
 use Rattle.mw_term.specs.WordList.{AllEnded, WordList}
-use Rattle.mw_course.specs.declared.elements.Space.{Space}
+use Rattle.mw_segment.specs.declared.space.Space.{Space}
+pub use Rattle.mw_segment.specs.Spaces.{list_of_space}
 use Rattle.mw_course.specs.Starts.{Ground}
 use Rattle.mw_course.specs.Steps.{said_from}
 
@@ -26,10 +27,6 @@ AsksFor job number bits g term = case_words job number bits ≡ stopped term (li
 abbrev pub ComesTo : Job → (number : ℕ) → (bits : List Decided) → (left : List Bool → CaseWords) → Type 0
 ComesTo job number bits left =
     (further : List Bool) → words_along job number (bit_values bits ++ further) ≡ left further
-
--- the list of what a run works on
-abbrev pub list_of_space : Space → WordList
-list_of_space space = list_in space.terms space.words space.memory
 
 -- that list, and terms of it at which several things end
 abbrev pub all_ended : (terms : List ℕ) → WordList → AllEnded

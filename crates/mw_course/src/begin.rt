@@ -14,10 +14,9 @@ ghost use Rattle.mw_course.specs.Listed.{list_of_space};
 ghost use Rattle.mw_course.specs.OnWay.{ground_in};
 ghost use Rattle.mw_course.specs.Starts.{IsGround, StandsForStart};
 
-use crate::elements::Space;
-use crate::outside::environment_of;
 use mw_base::NoMemory;
 use mw_rel::{Begin, Job, free};
+use mw_segment::{Space, environment_of};
 use mw_term::{Assignment, Side, WordKind};
 use std::alloc::Global;
 

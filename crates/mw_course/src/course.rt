@@ -9,7 +9,6 @@ ghost use Rattle.mw_rel.specs.Views.{job_of};
 ghost use Rattle.mw_course.specs.Courses.{HaveCome, IsGiven, IsGoing, IsOnCourse, IsOtherCourse, IsReady, IsTurned};
 ghost use Rattle.mw_course.specs.Courses.{IsTurnedOnCourse, MayBeGiven, with_board};
 
-use crate::elements::Space;
 use crate::registers::Registers;
 use crate::run::Run;
 use crate::segment::{Came, segment};

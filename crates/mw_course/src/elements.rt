@@ -2,7 +2,7 @@
 ghost use Rattle.std.specs.Prelude.{◌≡◌, ◌+◌, ◌<◌, ◌≤◌, [], All, IfOk, OnOk, drop, length, slice_index};
 ghost use Rattle.mw_macro.specs.Counts.{reads};
 ghost use Rattle.mw_term.specs.Table.{IsWidth};
-ghost use Rattle.mw_term.specs.WordList.{ended, list_of};
+ghost use Rattle.mw_term.specs.WordList.{ended};
 ghost use Rattle.mw_symmem.specs.Memory.{IsOfWidth};
 ghost use Rattle.mw_symmem.specs.Words.{AreOf};
 ghost use Rattle.mw_symmem.specs.Workspace.{HaveKinds, IsLater};
@@ -12,70 +12,19 @@ ghost use Rattle.mw_rel.specs.Rules.{IsLineOf};
 ghost use Rattle.mw_rel.specs.Seen.{line_of, lines_of};
 ghost use Rattle.mw_rel.specs.StartWords.{all_own_words, line_words, lines_words, start_words};
 ghost use Rattle.mw_rel.specs.Views.{job_of};
-ghost use Rattle.mw_course.specs.Boundaries.{AreElements, AreWide, AreWideSoFar, IsElementBelow, IsSpace, IsSpaceOf};
+ghost use Rattle.mw_course.specs.Boundaries.{AreElements, AreWide, AreWideSoFar, IsElementBelow, IsSpace};
 ghost use Rattle.mw_course.specs.Listed.{all_ended, list_of_space};
 ghost use Rattle.mw_course.specs.OnWay.{ground_in};
 ghost use Rattle.mw_course.specs.OwnTerms.{AreOwn, AreRelated, IsOwn, IsRelated, own_word, with_own};
 ghost use Rattle.mw_course.specs.Starts.{IsGround};
 
 use mw_base::NoMemory;
-use mw_board::Board;
 use mw_rel::{Job, Line, free};
 use mw_symmach::expr_term;
-use mw_symmem::{Side, SymMemory, Words, are_of_at_first, is_memory_at_first};
-use mw_term::{Op, Term, WordKind, Written};
+use mw_segment::Space;
+use mw_symmem::Side;
+use mw_term::{Op, Term, WordKind};
 use std::alloc::Global;
-
-/// What a run works on.
-#[derive(Drop)]
-pub struct Space {
-    /// The terms that it writes.
-    pub terms: Written,
-    /// The words of the case.
-    pub words: Words,
-    /// The memory of both sides.
-    pub memory: SymMemory,
-}
-
-impl Space {
-    /// No term and no word, and a memory that wasn't read, over the map of a board.
-    ///
-    /// # Errors
-    ///
-    /// Memory ran out.
-    pub fn new(alloc: Global, board: &Board) -> Result<Space, NoMemory>
-        ensures space { IfOk result (λ s. IsSpaceOf board.now s.terms s.words s.memory) }
-        ensures words { IfOk result (λ s. s.words ≡ []) }
-        ensures reads { IfOk result (λ s. s.memory.reads ≡ []) }
-        ensures unwritten { IfOk result (λ s. (s.memory.board ≡ []) × (s.memory.machine ≡ [])) }
-        ensures listed { IfOk result (λ s. list_of_space s ≡ list_of [] [] []) }
-    {
-        // Laws for the proof: no words are those of a table without terms, and a new memory is one over them.
-        are_of_at_first();
-        is_memory_at_first();
-        let parts = board.parts();
-        Ok(Space {
-            terms: Written::new(alloc, parts.map_entries.as_slice())?,
-            words: Words::new(alloc),
-            memory: SymMemory::new(alloc, parts.address, parts.width),
-        })
-    }
-
-    /// The same once more.
-    ///
-    /// # Errors
-    ///
-    /// Memory ran out.
-    pub fn copy(&self, alloc: Global) -> Result<Space, NoMemory>
-        ensures { IfOk result (λ copy. copy ≡ self.now) }
-    {
-        Ok(Space {
-            terms: self.terms.copy(alloc)?,
-            words: self.words.copy(alloc)?,
-            memory: self.memory.copy(alloc)?,
-        })
-    }
-}
 
 /// The term of an element of its own: a variable where it is free. Else it is 0, which no right side reads.
 fn own_term(

@@ -7,7 +7,6 @@
 mod begin;
 mod course;
 mod elements;
-mod outside;
 mod reached;
 mod registers;
 mod run;
@@ -16,8 +15,7 @@ mod step;
 
 pub use begin::begin_of;
 pub use course::Course;
-pub use elements::{Elements, Space, elements_at};
-pub use outside::environment_of;
+pub use elements::{Elements, elements_at};
 pub use reached::{boundary_at, is_boundary};
 pub use registers::Registers;
 pub use run::Run;

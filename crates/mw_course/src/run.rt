@@ -8,10 +8,11 @@ ghost use Rattle.mw_rel.specs.Views.{job_of};
 ghost use Rattle.mw_course.specs.OnWay.{IsFirst, IsRunOf, Turns};
 ghost use Rattle.mw_course.specs.Runs.{IsIdle, IsTurned};
 
-use crate::elements::{Space, elements_at};
+use crate::elements::elements_at;
 use crate::registers::Registers;
 use mw_base::NoMemory;
 use mw_rel::Job;
+use mw_segment::Space;
 use mw_symboard::SymBoard;
 use mw_symmem::Turn;
 use mw_term::Term;

@@ -14,10 +14,10 @@ ghost use Rattle.mw_course.specs.OnWay.{HasMetSegment, IsOnStep, IsRunOf, IsTurn
 ghost use Rattle.mw_course.specs.Runs.{HasLine};
 ghost use Rattle.mw_course.specs.Steps.{IsUnderway};
 
-use crate::elements::Space;
 use crate::run::Run;
 use mw_base::NoMemory;
 use mw_rel::Job;
+use mw_segment::Space;
 use mw_symmach::{SymMach, steps_go_along};
 use mw_symmem::{Turn, Words};
 use mw_term::{Term, WordKind, Written};

@@ -22,12 +22,12 @@ ghost use Rattle.mw_fork.specs.Within.{AreDecidedWithin};
 
 use crate::fault::{Place, RunStop};
 use mw_blast::{BlastFault, over_have_numbers};
-use mw_course::Space;
 use mw_dd::Dd;
 use mw_explore::Choice;
 use mw_macro::words_are_numbered;
 use mw_path::{Feasible, Paths};
 use mw_rel::words_of_cases_are_numbered;
+use mw_segment::Space;
 use mw_symboard::words_of_cycles_are_numbered;
 use mw_symmem::Words;
 use mw_term::{DecidedKind, ShortcutBook, Term};

@@ -11,8 +11,9 @@ use crate::comparing::first_failing;
 use crate::fault::RunStop;
 use crate::traced::Traced;
 use mw_base::NoMemory;
-use mw_course::{Space, begin_of};
+use mw_course::begin_of;
 use mw_rel::{Begin, Job};
+use mw_segment::Space;
 use mw_term::{Places, ShortcutBook, stands_with_more};
 use std::alloc::Global;
 

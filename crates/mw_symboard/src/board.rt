@@ -772,6 +772,13 @@ impl SymBoard {
             .term(board, element_of(board, element as usize))
     }
 
+    /// How many cycles are finished.
+    pub fn cycles(&self) -> u32
+        ensures { result ≡ self.now.place.cycle }
+    {
+        self.place.cycle
+    }
+
     /// The control address.
     pub fn at(&self) -> u16
         ensures { result ≡ self.now.place.at }

@@ -9,8 +9,8 @@ use Rattle.mw_term.specs.declared.kinds.WordKind.{WordKind}
 use Rattle.mw_term.specs.declared.word.Word.{Word}
 use Rattle.mw_term.specs.Assigned.{Given}
 use Rattle.mw_term.specs.Table.{Table}
+use Rattle.mw_term.specs.Values.{term_value}
 use Rattle.mw_term.specs.WordList.{same_kind, term_of}
-use Rattle.mw_course.specs.Begins.{value_or_zero}
 
 -- the value of a list with a number, and 0 where none is named
 abbrev pub value_at : Environment → Option (Series × ℕ) → ℕ
@@ -34,6 +34,11 @@ but_waits env = record { line = env.line; noise = env.noise; inputs = env.inputs
 abbrev pub HasTaken : Side → (old new : Environment) → WordKind → (value : ℕ) → Type 0
 HasTaken side old new kind value = (other : WordKind) → is_outside side other ≡ true
     → entry side new other ≡ (if same_kind kind other then value else entry side old other)
+
+-- what a term has under an assignment; 0 where there is none
+abbrev pub value_or_zero : Table → Given → Option ℕ → ℕ
+value_or_zero t given (Some term) = term_value t given term
+value_or_zero t given None = 0
 
 -- an environment has the values of the variables that an assignment gives
 abbrev pub HasEntries : Side → Table → List Word → Given → Environment → Type 0
