@@ -1,5 +1,6 @@
 -- A run is on its way through the described step.
-use Rattle.std.proofs.Common.{◌≡◌, ℕ, List, [], ◌∷◌, ◌++◌, append-nil, append_assoc, length, ap, sym, subst, ◌∙◌, refl}
+use Rattle.std.proofs.Common.{◌≡◌, inl, inr, ℕ, List, [], ◌∷◌, ◌++◌, append-nil, append_assoc, length, ap, sym, subst}
+use Rattle.std.proofs.Common.{◌∙◌, refl}
 use Rattle.std.specs.Prelude.{Bool, true, false, Option, Some, None, map, option_map, slice_get, slice_index_or, ◌==◌}
 use Rattle.std.proofs.lemmas.List.{length-map, map-append}
 use Rattle.std.proofs.lemmas.Option.{slice_get-map}
@@ -16,6 +17,7 @@ use Rattle.mw_term.specs.declared.decided.Decided.{Decided}
 use Rattle.mw_cycle.specs.SteadySeries as lists
 use Rattle.mw_cycle.specs.Decided.{decided}
 use Rattle.mw_cycle.proofs.Lists.{bit_at}
+use Rattle.mw_cycle.proofs.Named.{no_input}
 use Rattle.mw_term.specs.Assigned.{Given}
 use Rattle.mw_term.specs.declared.decided.DecidedKind.{DecidedKind}
 use Rattle.mw_term.specs.declared.decided.DecidedKind.TheVariants.{Branch}
@@ -30,12 +32,14 @@ use Rattle.mw_symmem.specs.declared.turn.Turn.{Turn}
 use Rattle.mw_symmem.specs.declared.turn.Turn.TheVariants.{Ask, Finished}
 use Rattle.mw_symmem.specs.Memory.{Memory, IsOfWidth, after, valued}
 use Rattle.mw_symmem.specs.Words.{HaveOwnKinds}
-use Rattle.mw_symmem.specs.Workspace.{GoesOn}
+use Rattle.mw_symmem.specs.Workspace.{GoesOn, HaveKinds}
 use Rattle.mw_symboard.specs.Along.{standing_in}
 use Rattle.mw_symboard.specs.Turns.{Symbolic}
+use Rattle.mw_symboard.specs.Variables.{IsKindOfOthers}
 use Rattle.mw_symboard.proofs.Environments.{cycles_stay}
 use Rattle.mw_symboard.proofs.RunBits.{get_behind}
 use Rattle.mw_symboard.proofs.Runs.{runs_stay}
+use Rattle.mw_symboard.proofs.VariableWidths.{no_base}
 use Rattle.mw_symmach.specs.Along.{BitsGoAlong, TurnsAlong, TurnsGoAlong}
 use Rattle.mw_symmach.specs.Expressions.{values_at}
 use Rattle.mw_symmach.specs.Steps.{IsOfStep, Parts, Stands, now_of}
@@ -243,6 +247,14 @@ board_narrower job number g space path next board narrower of = record {
   events = of.events;
 }
 
+-- a step makes no variable of the board's own
+step_kinds : (words : List Word) → HaveKinds IsOfStep words → HaveKinds (IsKindOfOthers Board) words
+step_kinds words kinds place term kind is = λ series n by same.
+    (elim (kinds place term kind is) [
+      | inl h ↦ no_base Board series n h.0 (sym same ∙ h.1)
+      | inr h ↦ no_input Board series n h.0 by (sym same ∙ h.1)
+    ])
+
 -- A turn of the step.
 pub turns : (job : Job) (number cycles : ℕ) (elements : List ℕ) (segment : List Decided)
     (board : Symbolic) (bits : List Decided) (sold snew : Space) (path : Function) (old new : Stepping)
@@ -266,7 +278,7 @@ turns job number cycles elements segment board bits sold snew path old new turn 
     let to = goes_to IsOfStep sold snew elements goes own in
     let ground = on.on.stands in
     let variables = cycles_stay Board job.board sold.terms snew.terms sold.words snew.words goes.more ground.cycles goes.later
-    goes.words goes.kinds
+    goes.words (step_kinds goes.more goes.kinds)
     (λ n term there.
     input_wide job snew.terms snew.words snew.memory new.parts new.request n term is stepping.terms there)
     ground.variables in
