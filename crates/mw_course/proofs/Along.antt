@@ -17,7 +17,7 @@ use Rattle.mw_rel.specs.ComparisonWords.{compared_in}
 use Rattle.mw_rel.specs.Free.{numbered}
 use Rattle.mw_rel.specs.Job.{Job}
 use Rattle.mw_rel.specs.Start.{addresses_of}
-use Rattle.mw_segment.specs.declared.space.Space.{Space}
+use Rattle.mw_space.specs.declared.space.Space.{Space}
 use Rattle.mw_course.specs.declared.run.Run.{Run}
 use Rattle.mw_course.specs.Listed.{ComesTo, left_behind_cycle, left_in_cycle, left_of_cycles, left_of_step}
 use Rattle.mw_course.specs.Listed.{list_of_space}

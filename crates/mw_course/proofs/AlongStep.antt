@@ -25,7 +25,7 @@ use Rattle.mw_symmach.specs.Turns.{IsSaid, Stepping, is_asked, left_in}
 use Rattle.mw_symmach.specs.Walks.{Walks, asked_by, underway_by, underway_in, underway_of}
 use Rattle.mw_rel.specs.CaseWords.{CaseWords, behind_step, bit_values, case_words, whole, with_comparisons, words_along}
 use Rattle.mw_rel.specs.Job.{Job}
-use Rattle.mw_segment.specs.declared.space.Space.{Space}
+use Rattle.mw_space.specs.declared.space.Space.{Space}
 use Rattle.mw_course.specs.Listed.{AsksFor, ComesTo, left_behind_segment, left_of_step, list_of_space, standing_on}
 use Rattle.mw_course.specs.Starts.{Ground}
 use Rattle.mw_course.specs.Steps.{said_from}

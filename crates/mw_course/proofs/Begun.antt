@@ -28,16 +28,16 @@ use Rattle.mw_rel.specs.Job.{Job, IsJob}
 use Rattle.mw_ready.specs.Thinned.{always_ready}
 use Rattle.mw_rel.specs.SteadyStart.{Start}
 use Rattle.mw_symboard.proofs.Environments.{own_found}
-use Rattle.mw_segment.specs.declared.space.Space.{Space}
+use Rattle.mw_space.specs.declared.space.Space.{Space}
 use Rattle.mw_course.specs.Begins.{IsAssigned, IsChosen, kind_value, value_or_zero}
 use Rattle.mw_course.specs.Boundaries.{IsSpace}
-use Rattle.mw_segment.specs.Entries.{HasEntries, but_waits}
+use Rattle.mw_space.specs.Entries.{HasEntries, but_waits}
 use Rattle.mw_course.specs.Listed.{list_of_space}
 use Rattle.mw_course.specs.OnWay.{ground_in}
 use Rattle.mw_course.specs.Starts.{Ground, IsGround, StandsForStart}
 use Rattle.mw_course.proofs.FreeValues.{term_at}
 use Rattle.mw_course.proofs.Grounds.{start_with}
-use Rattle.mw_segment.proofs.Environments.{environment_of, listed}
+use Rattle.mw_space.proofs.Environments.{environment_of, listed}
 use Rattle.mw_course.proofs.Taking.{free_same}
 
 -- the value of an element's variable

@@ -11,7 +11,7 @@ use Rattle.mw_term.specs.declared.decided.DecidedKind.{DecidedKind}
 use Rattle.mw_rel.specs.Free.{numbered}
 use Rattle.mw_rel.specs.Job.{IsJob, Job}
 use Rattle.mw_course.specs.declared.course.Course.{Course}
-use Rattle.mw_segment.specs.declared.space.Space.{Space}
+use Rattle.mw_space.specs.declared.space.Space.{Space}
 use Rattle.mw_course.specs.declared.run.Run.{Run}
 use Rattle.mw_course.specs.declared.segment.Came.{Came}
 use Rattle.mw_course.specs.declared.segment.Came.TheVariants as came

@@ -31,7 +31,7 @@ use Rattle.mw_rel.specs.Free.{numbered}
 use Rattle.mw_rel.specs.Job.{Job}
 use Rattle.mw_rel.specs.Relation.{Boundary}
 use Rattle.mw_rel.specs.StartWords.{start_words}
-use Rattle.mw_segment.specs.declared.space.Space.{Space}
+use Rattle.mw_space.specs.declared.space.Space.{Space}
 use Rattle.mw_course.specs.Listed.{ComesTo, all_ended, left_of_cycles, list_of_space, standing_on}
 use Rattle.mw_course.specs.Starts.{registers_of}
 

@@ -32,7 +32,7 @@ use Rattle.mw_rel.proofs.Standing.{dropped_at}
 use Rattle.mw_symboard.proofs.Environments.{either}
 use Rattle.mw_course.specs.Boundaries.{AreWide}
 use Rattle.mw_course.specs.CasePaths.{IsCasePath, OnPath}
-use Rattle.mw_segment.specs.declared.space.Space.{Space}
+use Rattle.mw_space.specs.declared.space.Space.{Space}
 use Rattle.mw_course.specs.OnWay.{IsOnWay, ground_in}
 use Rattle.mw_course.specs.Starts.{GoesTo, Ground, HaveValues, IsGround, StandsForStart, course_of, origin_of}
 use Rattle.mw_course.specs.Starts.{registers_of}

@@ -39,7 +39,7 @@ use Rattle.mw_rel.specs.Job.{Job, IsJob}
 use Rattle.mw_rel.specs.Relation.{Boundary}
 use Rattle.mw_course.specs.Boundaries.{AreElements}
 use Rattle.mw_course.specs.CasePaths.{IsNextOfCase}
-use Rattle.mw_segment.specs.declared.space.Space.{Space}
+use Rattle.mw_space.specs.declared.space.Space.{Space}
 use Rattle.mw_course.specs.declared.run.Run.{Run}
 use Rattle.mw_course.specs.Listed.{ComesTo, left_in_cycle, list_of_space}
 use Rattle.mw_course.specs.OnWay.{HasDecided, HasMetAll, IsOnRun, IsTurnedOnRun, ground_in}

@@ -52,7 +52,7 @@ use Rattle.mw_rel.specs.SteadyCase.{bits_of_cycles, bits_of_step, case_of}
 use Rattle.mw_rel.specs.Job.{Job, IsJob}
 use Rattle.mw_rel.specs.SteadyStart.{Start}
 use Rattle.mw_rel.proofs.Cases.{cases_begin_with_cycles}
-use Rattle.mw_segment.specs.declared.space.Space.{Space}
+use Rattle.mw_space.specs.declared.space.Space.{Space}
 use Rattle.mw_course.specs.declared.run.Run.{Run}
 use Rattle.mw_course.specs.CasePaths.{EndsSo}
 use Rattle.mw_course.specs.Ends.{IsBoardOf}

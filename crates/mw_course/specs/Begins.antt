@@ -15,7 +15,7 @@ use Rattle.mw_term.specs.Assigned.{Given}
 use Rattle.mw_term.specs.Table.{Table}
 use Rattle.mw_term.specs.WordList.{WordList, table_in, term_of}
 use Rattle.mw_symmem.specs.Memory.{base_word}
-pub use Rattle.mw_segment.specs.Entries.{value_or_zero}
+pub use Rattle.mw_space.specs.Entries.{value_or_zero}
 
 -- what a list's variable of a kind has under an assignment
 abbrev pub kind_value : Table → WordList → Given → WordKind → ℕ

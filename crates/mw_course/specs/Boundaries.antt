@@ -7,7 +7,7 @@ use Rattle.mw_term.specs.Table.{Table}
 use Rattle.mw_symmem.specs.Memory.{Memory, IsOfWidth}
 use Rattle.mw_symmem.specs.Workspace.{HaveKinds, IsWorkspace}
 use Rattle.mw_rel.specs.Job.{Job}
-pub use Rattle.mw_segment.specs.Spaces.{IsSpaceOf}
+pub use Rattle.mw_space.specs.Spaces.{IsSpaceOf}
 
 -- a table with the map of a job's board, the words of its terms, and a memory with the board's widths over them
 abbrev pub IsSpace : Job → Table → List Word → Memory → Type 0

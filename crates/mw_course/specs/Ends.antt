@@ -16,7 +16,7 @@ use Rattle.mw_symboard.specs.Turns.{AreEvents, Symbolic}
 use Rattle.mw_symmach.specs.Steps.{Stands, now_of}
 use Rattle.mw_symmach.specs.Turns.{Stepping}
 use Rattle.mw_symmach.specs.Walks.{underway_in}
-use Rattle.mw_segment.specs.declared.space.Space.{Space}
+use Rattle.mw_space.specs.declared.space.Space.{Space}
 use Rattle.mw_course.specs.declared.run.Run.{Run}
 use Rattle.mw_course.specs.Listed.{list_of_space, standing_on}
 use Rattle.mw_course.specs.Starts.{Ground, StandsForStart, course_of}

@@ -14,8 +14,8 @@ use Rattle.mw_rel.specs.Free.{numbered}
 use Rattle.mw_rel.specs.Job.{Job}
 use Rattle.mw_rel.specs.Start.{addresses_of}
 use Rattle.mw_term.specs.WordList.{AllEnded, WordList}
-use Rattle.mw_segment.specs.declared.space.Space.{Space}
-pub use Rattle.mw_segment.specs.Spaces.{list_of_space}
+use Rattle.mw_space.specs.declared.space.Space.{Space}
+pub use Rattle.mw_space.specs.Spaces.{list_of_space}
 use Rattle.mw_course.specs.Starts.{Ground}
 use Rattle.mw_course.specs.Steps.{said_from}
 

@@ -21,7 +21,7 @@ use Rattle.mw_rel.specs.ComparisonWords.{compared_in}
 use Rattle.mw_rel.specs.Free.{numbered}
 use Rattle.mw_rel.specs.Job.{Job}
 use Rattle.mw_rel.specs.SteadyStart.{Start}
-use Rattle.mw_segment.specs.declared.space.Space.{Space}
+use Rattle.mw_space.specs.declared.space.Space.{Space}
 use Rattle.mw_course.specs.declared.run.Run.{Run}
 use Rattle.mw_course.specs.CasePaths.{HasCase, HasNoBoundary, HasSegment, IsNextOfCase, IsCasePath}
 use Rattle.mw_course.specs.Ends.{EndsBy, IsBoardOf, IsStepOf}

@@ -16,7 +16,7 @@ ghost use Rattle.mw_course.specs.Starts.{IsGround, StandsForStart};
 
 use mw_base::NoMemory;
 use mw_rel::{Begin, Job, free};
-use mw_segment::{Space, environment_of};
+use mw_space::{Space, environment_of};
 use mw_term::{Assignment, Side, WordKind};
 use std::alloc::Global;
 

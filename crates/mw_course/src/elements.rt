@@ -21,7 +21,7 @@ ghost use Rattle.mw_course.specs.Starts.{IsGround};
 use mw_base::NoMemory;
 use mw_rel::{Job, Line, free};
 use mw_symmach::expr_term;
-use mw_segment::Space;
+use mw_space::Space;
 use mw_symmem::Side;
 use mw_term::{Op, Term, WordKind};
 use std::alloc::Global;

@@ -12,7 +12,7 @@ use crate::elements::elements_at;
 use crate::registers::Registers;
 use mw_base::NoMemory;
 use mw_rel::Job;
-use mw_segment::Space;
+use mw_space::Space;
 use mw_symboard::SymBoard;
 use mw_symmem::Turn;
 use mw_term::Term;

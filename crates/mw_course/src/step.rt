@@ -17,7 +17,7 @@ ghost use Rattle.mw_course.specs.Steps.{IsUnderway};
 use crate::run::Run;
 use mw_base::NoMemory;
 use mw_rel::Job;
-use mw_segment::Space;
+use mw_space::Space;
 use mw_symmach::{SymMach, steps_go_along};
 use mw_symmem::{Turn, Words};
 use mw_term::{Term, WordKind, Written};

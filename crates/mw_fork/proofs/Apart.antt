@@ -26,7 +26,7 @@ use Rattle.mw_term.specs.Rows.{bit}
 use Rattle.mw_term.specs.Table.{Extends, IsTable, Table, op_width, table_of}
 use Rattle.mw_term.specs.Values.{IsTermOf, Keeps, op_value, term_value}
 use Rattle.mw_term.specs.WordList.{Ended, WordList, word_number, plain, with_word}
-use Rattle.mw_segment.specs.declared.space.Space.{Space}
+use Rattle.mw_space.specs.declared.space.Space.{Space}
 use Rattle.mw_fork.specs.Faults.{RunStop}
 use Rattle.mw_explore.specs.declared.fault.Fault.TheVariants as stops
 use Rattle.mw_fork.specs.declared.fault.Place.{Place}

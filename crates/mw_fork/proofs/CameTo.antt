@@ -3,7 +3,7 @@ use Rattle.std.specs.Prelude.{ℕ, Option, Result}
 use Rattle.mw_rel.specs.ComparisonWords.{Compared}
 use Rattle.mw_term.specs.Assigned.{Numbers}
 use Rattle.mw_term.specs.Functions.{Function}
-use Rattle.mw_segment.specs.declared.space.Space.{Space}
+use Rattle.mw_space.specs.declared.space.Space.{Space}
 use Rattle.mw_fork.specs.Faults.{RunStop}
 use Rattle.mw_fork.specs.Comparing.{Compares}
 

@@ -48,7 +48,7 @@ use Rattle.mw_rel.proofs.Shown.{is_shown}
 use Rattle.mw_rel.proofs.Steps.{step_fits}
 use Rattle.mw_course.specs.CasePaths.{HasCase, HasSegment, IsCasePath}
 use Rattle.mw_fork.specs.Comparing.{AreApart, AreOne, AreOneAtProbe, FailsFirst, GoesComparing}
-use Rattle.mw_segment.specs.declared.space.Space.{Space}
+use Rattle.mw_space.specs.declared.space.Space.{Space}
 use Rattle.mw_course.specs.declared.run.Run.{Run}
 use Rattle.mw_course.specs.Ends.{HaveEnded}
 use Rattle.mw_fork.specs.Failing.{IsFound, NoneDiffersOf}

@@ -15,7 +15,7 @@ use Rattle.mw_symmach.specs.Steps.{event_term}
 use Rattle.mw_course.specs.Boundaries.{AreWide}
 use Rattle.mw_fork.specs.Comparing.{AreEventsOf, AreOne, AreOneAtProbe, AreOneOn, ArePutOut, Compares, GoesComparing}
 use Rattle.mw_fork.specs.Comparing.{HoldsAt, compared_all}
-use Rattle.mw_segment.specs.declared.space.Space.{Space}
+use Rattle.mw_space.specs.declared.space.Space.{Space}
 use Rattle.mw_fork.specs.Faults.{RunStop}
 use Rattle.mw_fork.proofs.ComparingOn.{IsShown, compares_shown, compares_then, comparing_then, wide_compared}
 use Rattle.mw_fork.proofs.GoingOn.{GoesOnAs, goes_then, lines_go_on, memory_goes_on}

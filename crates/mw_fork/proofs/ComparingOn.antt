@@ -7,7 +7,7 @@ use Rattle.mw_symmem.proofs.Later.{goes_then, width_later, writes_then}
 use Rattle.mw_term.specs.Assigned.{Numbers}
 use Rattle.mw_term.specs.Cofactors.{Agree}
 use Rattle.mw_term.specs.Functions.{Function}
-use Rattle.mw_segment.specs.declared.space.Space.{Space}
+use Rattle.mw_space.specs.declared.space.Space.{Space}
 use Rattle.mw_path.specs.declared.paths.Paths.{Paths}
 use Rattle.mw_fork.specs.Faults.{RunStop}
 use Rattle.mw_course.specs.Boundaries.{AreWide}

@@ -45,7 +45,7 @@ use Rattle.mw_rel.proofs.Same.{none_where_same, same_where_none}
 use Rattle.mw_rel.proofs.Steps.{step_fits}
 use Rattle.mw_course.specs.Boundaries.{AreWide}
 use Rattle.mw_fork.specs.Comparing.{ArePutOut, right_of}
-use Rattle.mw_segment.specs.declared.space.Space.{Space}
+use Rattle.mw_space.specs.declared.space.Space.{Space}
 use Rattle.mw_course.specs.Ends.{HaveEnded}
 use Rattle.mw_course.specs.Starts.{Ground}
 use Rattle.mw_course.proofs.Boundaries.{board_wide}

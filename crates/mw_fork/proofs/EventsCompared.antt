@@ -13,7 +13,7 @@ use Rattle.mw_symmem.specs.Workspace.{IsWorkspace}
 use Rattle.mw_term.specs.declared.event.SymEvent.{SymEvent}
 use Rattle.mw_term.specs.declared.event.SymEvent.TheVariants.{Out, Taken}
 use Rattle.mw_term.specs.Functions.{Function}
-use Rattle.mw_segment.specs.declared.space.Space.{Space}
+use Rattle.mw_space.specs.declared.space.Space.{Space}
 use Rattle.mw_fork.specs.Comparing.{AreEventsOf, AreOneOn, ArePutOut, GoesComparing, IsComparedKind}
 use Rattle.mw_fork.proofs.GoingOn.{GoesOnAs, events_go_on}
 

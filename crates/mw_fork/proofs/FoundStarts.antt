@@ -7,7 +7,7 @@ use Rattle.mw_rel.specs.SteadyStart.{Start}
 use Rattle.mw_ready.specs.Thinned.{always_ready}
 use Rattle.mw_ready.proofs.Alike.{same_case, same_difference}
 use Rattle.mw_term.specs.Assigned.{Numbers, given_by}
-use Rattle.mw_segment.specs.declared.space.Space.{Space}
+use Rattle.mw_space.specs.declared.space.Space.{Space}
 use Rattle.mw_course.specs.Begins.{IsAssigned, IsChosen}
 use Rattle.mw_fork.specs.Begins.{IsDiffering, IsLeast}
 use Rattle.mw_fork.specs.Failing.{IsFound}

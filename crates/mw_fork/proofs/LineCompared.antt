@@ -25,7 +25,7 @@ use Rattle.mw_term.specs.MemoryRead.{Held}
 use Rattle.mw_term.specs.Table.{Table, term_width}
 use Rattle.mw_term.specs.Values.{term_value}
 use Rattle.mw_term.specs.WordList.{Ended, WordList, ended}
-use Rattle.mw_segment.specs.declared.space.Space.{Space}
+use Rattle.mw_space.specs.declared.space.Space.{Space}
 use Rattle.mw_fork.specs.Faults.{RunStop}
 use Rattle.mw_course.specs.Boundaries.{AreWide}
 use Rattle.mw_fork.specs.Comparing.{AreOneOn, AreSidesOn, AreTwoAt, FailsAt, GoesComparing, HoldsAt, IsComparedKind}

@@ -15,7 +15,7 @@ use Rattle.mw_symmem.specs.Workspace.{IsWorkspace}
 use Rattle.mw_term.specs.Assigned.{Given}
 use Rattle.mw_term.specs.Cofactors.{Agree}
 use Rattle.mw_term.specs.Functions.{Function}
-use Rattle.mw_segment.specs.declared.space.Space.{Space}
+use Rattle.mw_space.specs.declared.space.Space.{Space}
 use Rattle.mw_course.specs.Boundaries.{AreWide}
 use Rattle.mw_fork.specs.Comparing.{GoesComparing, HoldsAt}
 use Rattle.mw_fork.proofs.GoingOn.{GoesOnAs, lines_go_on}

@@ -20,7 +20,7 @@ use Rattle.mw_term.specs.Functions.{Function}
 use Rattle.mw_term.specs.MemoryRead.{Held, held}
 use Rattle.mw_term.specs.Values.{IsTermOf, Keeps, term_value}
 use Rattle.mw_term.specs.WordList.{Ended, WordList, ended, memory_read_words, variable, with_variable}
-use Rattle.mw_segment.specs.declared.space.Space.{Space}
+use Rattle.mw_space.specs.declared.space.Space.{Space}
 use Rattle.mw_fork.specs.Faults.{RunStop}
 use Rattle.mw_fork.specs.Comparing.{AreOneAtProbe, AreOneOn, AreTwoAt, AreTwoInMemory, AreWritesOn, GoesComparing}
 use Rattle.mw_fork.specs.Comparing.{IsComparedKind}

@@ -14,7 +14,7 @@ use Rattle.mw_path.specs.declared.paths.Paths.{Paths}
 use Rattle.mw_path.specs.Paths.{AreMade, HaveGrown, path_in}
 use Rattle.mw_symmach.specs.Along.{BitsGoAlong}
 use Rattle.mw_rel.specs.Job.{Job}
-use Rattle.mw_segment.specs.declared.space.Space.{Space}
+use Rattle.mw_space.specs.declared.space.Space.{Space}
 use Rattle.mw_course.specs.Courses as courses
 use Rattle.mw_course.specs.Courses.{Waits, WaitsOnCourse}
 use Rattle.mw_course.specs.OnWay.{HasDecided, ground_in}

@@ -23,7 +23,7 @@ use Rattle.mw_rel.specs.PathWords.{comparison_word, path_of}
 use Rattle.mw_rel.specs.TreePaths.StandsAtWord.{at_word}
 use Rattle.mw_rel.specs.Sought.{IsSought, NeverFails}
 use Rattle.mw_rel.specs.TreeSought.IsSought.{at_comparison as sought_at, on_path}
-use Rattle.mw_segment.specs.declared.space.Space.{Space}
+use Rattle.mw_space.specs.declared.space.Space.{Space}
 use Rattle.mw_fork.specs.Faults.{RunStop}
 use Rattle.mw_explore.specs.declared.fault.Fault.TheVariants.{NoMemory, Over}
 use Rattle.mw_fork.specs.declared.fault.Place.{Place}

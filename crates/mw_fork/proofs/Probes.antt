@@ -25,7 +25,7 @@ use Rattle.mw_rel.specs.SteadyCase.{IsStartAt}
 use Rattle.mw_rel.specs.InRelation.{values_of}
 use Rattle.mw_rel.specs.Job.{Job, IsJob}
 use Rattle.mw_rel.specs.SteadyStart.{Start}
-use Rattle.mw_segment.specs.declared.space.Space.{Space}
+use Rattle.mw_space.specs.declared.space.Space.{Space}
 use Rattle.mw_fork.specs.Comparing.{GoesComparing, IsComparedKind}
 use Rattle.mw_course.specs.OnWay.{ground_in}
 use Rattle.mw_course.specs.Starts.{GoesTo, Ground, IsGround, StandsForStart}

@@ -42,7 +42,7 @@ use Rattle.mw_rel.specs.SteadyStart.{Start}
 use Rattle.mw_rel.proofs.Cases.{segments_have_cycles}
 use Rattle.mw_course.specs.CasePaths.{HasSegment}
 use Rattle.mw_fork.specs.Comparing.{GoesComparing}
-use Rattle.mw_segment.specs.declared.space.Space.{Space}
+use Rattle.mw_space.specs.declared.space.Space.{Space}
 use Rattle.mw_course.specs.Ends.{HaveEnded}
 use Rattle.mw_course.specs.Starts.{Ground, StandsForStart, course_of}
 

@@ -24,7 +24,7 @@ use Rattle.mw_rel.specs.Relation.{Boundary}
 use Rattle.mw_rel.specs.Rules.{IsLineOf}
 use Rattle.mw_fork.specs.Comparing.{AreApart, AreSidesOn, Compares, GoesComparing, HaveCompared, IsOutcome}
 use Rattle.mw_fork.specs.Comparing.{compared_all}
-use Rattle.mw_segment.specs.declared.space.Space.{Space}
+use Rattle.mw_space.specs.declared.space.Space.{Space}
 use Rattle.mw_fork.specs.Faults.{RunStop}
 use Rattle.mw_fork.specs.Failing.{ComparisonStops, ComparisonsAreWithin, IsFound}
 use Rattle.mw_course.specs.Listed.{list_of_space, standing_on}

@@ -27,7 +27,7 @@ use Rattle.mw_symmem.specs.Words.{IsVariable}
 use Rattle.mw_symmem.specs.Workspace.{GoesOn, KeepsWrites}
 use Rattle.mw_symmach.specs.Expressions.{values_at}
 use Rattle.mw_symmach.specs.Steps.{event_term}
-use Rattle.mw_segment.specs.declared.space.Space.{Space}
+use Rattle.mw_space.specs.declared.space.Space.{Space}
 use Rattle.mw_fork.specs.Faults.{RunStop}
 use Rattle.mw_explore.specs.declared.fault.Fault.TheVariants.{Over}
 use Rattle.mw_fork.specs.declared.fault.Place.{Place}

@@ -19,7 +19,7 @@ use Rattle.mw_term.specs.Cofactors.{HasAtMostCofactors}
 use Rattle.mw_term.specs.Functions.{Function}
 use Rattle.mw_dd.specs.Diagrams.{IsFirst}
 use Rattle.mw_fork.specs.Begins.{IsDiffering, IsLeast}
-use Rattle.mw_segment.specs.declared.space.Space.{Space}
+use Rattle.mw_space.specs.declared.space.Space.{Space}
 use Rattle.mw_fork.specs.Faults.{RunStop}
 use Rattle.mw_explore.specs.declared.fault.Fault.TheVariants.{NoMemory, Over}
 use Rattle.mw_course.specs.Listed.{list_of_space}

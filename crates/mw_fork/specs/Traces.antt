@@ -4,7 +4,7 @@ use Rattle.mw_term.specs.declared.decided.Decided.{Decided}
 use Rattle.mw_path.specs.declared.paths.Paths.{Paths}
 use Rattle.mw_path.specs.Paths.{AreMade, ArePaths, StayOnPath, path_in}
 use Rattle.mw_rel.specs.Job.{Job}
-use Rattle.mw_segment.specs.declared.space.Space.{Space}
+use Rattle.mw_space.specs.declared.space.Space.{Space}
 use Rattle.mw_course.specs.Courses as courses
 use Rattle.mw_course.specs.Courses.{IsOtherCourse}
 use Rattle.mw_fork.specs.declared.traced.Traced.{Traced}

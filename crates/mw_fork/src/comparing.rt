@@ -43,7 +43,7 @@ use mw_course::{Run, boundary_at};
 use mw_macro::words_are_numbered;
 use mw_path::Paths;
 use mw_rel::{Job, Line, words_of_cases_are_numbered};
-use mw_segment::Space;
+use mw_space::Space;
 use mw_symboard::{SymBoard, words_of_cycles_are_numbered};
 use mw_symmach::{SymMach, expr_term};
 use mw_symmem::{Side, SymEvent};

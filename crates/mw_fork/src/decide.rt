@@ -27,7 +27,7 @@ use mw_explore::Choice;
 use mw_macro::words_are_numbered;
 use mw_path::{Feasible, Paths};
 use mw_rel::words_of_cases_are_numbered;
-use mw_segment::Space;
+use mw_space::Space;
 use mw_symboard::words_of_cycles_are_numbered;
 use mw_symmem::Words;
 use mw_term::{DecidedKind, ShortcutBook, Term};

@@ -13,7 +13,7 @@ use crate::traced::Traced;
 use mw_base::NoMemory;
 use mw_course::begin_of;
 use mw_rel::{Begin, Job};
-use mw_segment::Space;
+use mw_space::Space;
 use mw_term::{Places, ShortcutBook, stands_with_more};
 use std::alloc::Global;
 

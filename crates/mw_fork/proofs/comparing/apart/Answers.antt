@@ -5,7 +5,7 @@ use Rattle.mw_symmem.proofs.Lists.{plain_behind}
 use Rattle.mw_term.specs.declared.kinds.WordKind.TheVariants.{Probe}
 use Rattle.mw_term.specs.WordList.{term_of}
 use Rattle.mw_path.specs.Paths.{path_in}
-use Rattle.mw_segment.specs.declared.space.Space.{Space}
+use Rattle.mw_space.specs.declared.space.Space.{Space}
 use Rattle.mw_fork.proofs.Apart.{compared_found, compared_goes, compared_over, compared_so, compared_wide, one_on}
 use Rattle.mw_fork.proofs.Apart.{two_at_first}
 use Rattle.mw_path.proofs.Sharing.{shared_with_more}

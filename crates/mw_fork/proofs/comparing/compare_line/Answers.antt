@@ -7,7 +7,7 @@ use Rattle.mw_rel.proofs.Standing.{board_address}
 use Rattle.mw_symmach.specs.Expressions.{IsBase}
 use Rattle.mw_term.specs.declared.kinds.WordKind.TheVariants.{Probe}
 use Rattle.mw_term.specs.WordList.{term_of}
-use Rattle.mw_segment.specs.declared.space.Space.{Space}
+use Rattle.mw_space.specs.declared.space.Space.{Space}
 use Rattle.mw_fork.specs.Comparing.{GoesComparing}
 use Rattle.mw_path.specs.Paths.{path_in}
 use Rattle.mw_course.proofs.Boundaries.{machine_word}

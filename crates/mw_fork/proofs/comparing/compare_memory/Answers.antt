@@ -5,7 +5,7 @@ use Rattle.mw_rel.specs.Views.{job_of}
 use Rattle.mw_rel.proofs.Standing.{board_address}
 use Rattle.mw_term.specs.declared.side.Side.TheVariants as sides
 use Rattle.mw_symmem.proofs.Later.{width_later}
-use Rattle.mw_segment.specs.declared.space.Space.{Space}
+use Rattle.mw_space.specs.declared.space.Space.{Space}
 use Rattle.mw_fork.specs.Comparing.{GoesComparing}
 use Rattle.mw_path.specs.Paths.{path_in}
 use Rattle.mw_course.proofs.Boundaries.{machine_word}

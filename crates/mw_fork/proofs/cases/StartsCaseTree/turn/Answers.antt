@@ -1,7 +1,7 @@
 use Rattle.mw_path.proofs.Sharing.{shared_with_more}
 use Rattle.mw_path.specs.Paths.{path_in}
 use Rattle.mw_rel.specs.Views.{job_of}
-use Rattle.mw_segment.specs.declared.space.Space.{Space}
+use Rattle.mw_space.specs.declared.space.Space.{Space}
 use Rattle.mw_course.proofs.Followed.{asked_on, gone}
 use Rattle.mw_symmem.specs.Workspace.{IsLater}
 use Rattle.mw_path.specs.declared.paths.Paths.{Paths}

@@ -12,7 +12,7 @@ ghost use Rattle.mw_term.specs.Values.{term_value};
 ghost use Rattle.mw_term.specs.WordList.{is_of};
 ghost use Rattle.mw_symmem.specs.Workspace.{IsWorkspace};
 ghost use Rattle.mw_symboard.specs.Variables.{HaveVariables};
-ghost use Rattle.mw_segment.specs.Entries.{HasEntries, HasTaken, entry, is_outside};
+ghost use Rattle.mw_space.specs.Entries.{HasEntries, HasTaken, entry, is_outside};
 
 use crate::space::Space;
 use mw_base::NoMemory;

@@ -21,7 +21,7 @@ use Rattle.mw_term.specs.declared.kinds.WordKind.{WordKind}
 use Rattle.mw_term.specs.WordList.{same_kind}
 use Rattle.mw_symmem.specs.Kinds.{kind_is, kind_own}
 use Rattle.mw_symmem.proofs.Meaning.{set_at}
-use Rattle.mw_segment.specs.Entries.{HasTaken, entry, is_outside, value_at}
+use Rattle.mw_space.specs.Entries.{HasTaken, entry, is_outside, value_at}
 
 -- ---- what an environment has for its variables
 

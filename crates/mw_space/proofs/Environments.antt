@@ -17,8 +17,8 @@ use Rattle.mw_symmem.proofs.Images.{value_within}
 use Rattle.mw_symboard.specs.Laws.{IsEnvironmentOf}
 use Rattle.mw_symboard.specs.Variables.{HaveVariables}
 use Rattle.mw_symboard.proofs.Environments.{own_found}
-use Rattle.mw_segment.specs.Entries.{HasEntries, but_waits, value_or_zero}
-use Rattle.mw_segment.proofs.Placing.{entry_of, outside_of}
+use Rattle.mw_space.specs.Entries.{HasEntries, but_waits, value_or_zero}
+use Rattle.mw_space.proofs.Placing.{entry_of, outside_of}
 
 value_below : (t : Table) (given : Given) (o : Option ℕ) (width : ℕ) → IsTable t
     → ((term : ℕ) → o ≡ Some term → IsOfWidth t width term) → value_or_zero t given o < 2 ^ width

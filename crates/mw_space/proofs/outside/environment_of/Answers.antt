@@ -5,10 +5,10 @@ use Rattle.mw_term.specs.Assigned.{given_by}
 use Rattle.mw_term.specs.Values.{term_value}
 use Rattle.mw_term.specs.WordList.{is_of, term_of}
 use Rattle.mw_symboard.proofs.Environments.{own_found}
-use Rattle.mw_segment.specs.Entries.{value_or_zero}
-use Rattle.mw_segment.proofs.Taking.{entry_fresh, new_at, taken_next, value_fits, value_next, word_named}
-use Rattle.mw_segment.proofs.Taking.{word_read}
-use Rattle.mw_segment.proofs.outside.environment_of.Goals as goal
+use Rattle.mw_space.specs.Entries.{value_or_zero}
+use Rattle.mw_space.proofs.Taking.{entry_fresh, new_at, taken_next, value_fits, value_next, word_named}
+use Rattle.mw_space.proofs.Taking.{word_read}
+use Rattle.mw_space.proofs.outside.environment_of.Goals as goal
 
 pub take_word-requires-clause-fresh : goal.take_word-requires-clause-fresh
 take_word-requires-clause-fresh c = λ kind is.

@@ -1,6 +1,6 @@
 // What a run works on.
 ghost use Rattle.std.specs.Prelude.{◌≡◌, [], IfOk};
-ghost use Rattle.mw_segment.specs.Spaces.{IsSpaceOf, list_of_space};
+ghost use Rattle.mw_space.specs.Spaces.{IsSpaceOf, list_of_space};
 ghost use Rattle.mw_term.specs.WordList.{list_of};
 
 use mw_base::NoMemory;

@@ -1,6 +1,6 @@
 use Rattle.std.proofs.Common.{arith}
-use Rattle.mw_segment.proofs.Placing.{one_filled, put_named, put_trimmed, put_waits}
-use Rattle.mw_segment.proofs.outside.put.Goals as goal
+use Rattle.mw_space.proofs.Placing.{one_filled, put_named, put_trimmed, put_waits}
+use Rattle.mw_space.proofs.outside.put.Goals as goal
 
 pub loop-env-preserved : goal.loop-env-preserved
 loop-env-preserved c = record {

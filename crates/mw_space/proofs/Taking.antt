@@ -22,8 +22,8 @@ use Rattle.mw_symmem.specs.Words.{HaveOwnKinds, IsVariable}
 use Rattle.mw_symmem.proofs.Images.{value_within}
 use Rattle.mw_symmem.proofs.Lists.{absent, behind, term_plain, term_variable}
 use Rattle.mw_symboard.specs.Variables.{HaveVariables}
-use Rattle.mw_segment.specs.Entries.{HasEntries, entry, value_or_zero}
-use Rattle.mw_segment.proofs.Placing.{entry_none}
+use Rattle.mw_space.specs.Entries.{HasEntries, entry, value_or_zero}
+use Rattle.mw_space.proofs.Placing.{entry_none}
 
 -- ---- the variables of an environment
 

@@ -1,6 +1,6 @@
 use Rattle.std.proofs.Common.{sym, ◌∙◌}
 use Rattle.mw_cycle.proofs.Named.{any_named, width_among}
-use Rattle.mw_segment.proofs.outside.take.Goals as goal
+use Rattle.mw_space.proofs.outside.take.Goals as goal
 
 pub put-requires-clause-width : goal.put-requires-clause-width
 put-requires-clause-width c =

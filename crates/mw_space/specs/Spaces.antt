@@ -1,7 +1,7 @@
 -- What runs of a board on terms work on.
 use Rattle.std.specs.Prelude.{◌≡◌, List}
 use Rattle.mw_board.specs.declared.parts.BoardParts.{BoardParts}
-use Rattle.mw_segment.specs.declared.space.Space.{Space}
+use Rattle.mw_space.specs.declared.space.Space.{Space}
 use Rattle.mw_symmem.specs.Listed.{list_in}
 use Rattle.mw_symmem.specs.Memory.{Memory}
 use Rattle.mw_symmem.specs.Workspace.{IsWorkspace}
