@@ -1,0 +1,11 @@
+//! The first segment of a board on terms, of either side: its cycles up to the first that ends at a boundary, no more than
+//! its bound.
+#![tactic(auto)]
+
+mod laws;
+mod program;
+mod segment;
+
+pub use laws::{paths_go_on, words_begin};
+pub use program::Program;
+pub use segment::{Came, segment};

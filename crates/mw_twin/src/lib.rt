@@ -1,0 +1,8 @@
+//! Twin cases on terms: both programs of a revision from all twin starts of a block at once.
+#![tactic(auto)]
+
+mod elements;
+mod laws;
+
+pub use elements::{Elements, elements_at};
+pub use laws::twin_starts_are_there;
