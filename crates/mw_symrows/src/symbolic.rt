@@ -12,7 +12,7 @@ ghost use Rattle.mw_symrows.specs.Runs.{IsIdle, IsOver, IsUnder};
 
 use crate::listed::push_words;
 use crate::valued::{SymbolicStop, numbered, value};
-use crate::workspace::{Bit, Outside, Run, Stands, assign, element};
+use crate::workspace::{Bit, Outside, Run, Stands, assign, assign_line, element};
 use mw_base::Event;
 use mw_board::{Board, Store};
 use mw_cycle::{CycleIn, Element, State, element_of};
@@ -219,6 +219,7 @@ fn push_cycle(
     let outside = outside_of(state, asked.given);
     let first = run.words.count();
     assign(alloc, board, state, &run.words, given)?;
+    assign_line(alloc, board, asked.given.line, &run.words, given)?;
     let mut bits = Vec::new(alloc);
     run.cycle(alloc, board, store, outside, given, &mut bits)?;
     match asked.printed {

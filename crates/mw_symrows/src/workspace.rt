@@ -266,6 +266,22 @@ pub fn assign(
     Ok(())
 }
 
+/// Gives the line of the first cycle its value, where a variable stood for it before.
+///
+/// # Errors
+///
+/// Want of memory.
+pub fn assign_line(
+    alloc: Global,
+    board: &Board,
+    line: bool,
+    words: &Words,
+    given: &mut Assignment,
+) -> Result<(), SymbolicStop> {
+    let kind = WordKind::Element(line_number(board)?);
+    set(alloc, given, words, kind, u32::from(line))
+}
+
 /// A decided bit: what it says, and its value.
 #[derive(Clone, Copy)]
 pub struct Bit {
