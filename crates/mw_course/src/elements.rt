@@ -20,8 +20,8 @@ ghost use Rattle.mw_course.specs.Starts.{IsGround};
 
 use mw_base::NoMemory;
 use mw_rel::{Job, Line, free};
-use mw_symmach::expr_term;
 use mw_space::Space;
+use mw_symmach::expr_term;
 use mw_symmem::Side;
 use mw_term::{Op, Term, WordKind};
 use std::alloc::Global;

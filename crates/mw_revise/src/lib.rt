@@ -11,6 +11,7 @@ mod keep;
 mod laws;
 mod programs;
 mod reading;
+mod revision;
 mod said;
 mod site;
 mod twin;
@@ -28,5 +29,6 @@ pub use laws::{
 };
 pub use programs::Side;
 pub use reading::read_keep;
+pub use revision::Revision;
 pub use twin::{Twin, print_twin};
 pub use word_examples::{differing_twins_are_worked, twin_sides_are_worked, twin_words_are_worked};

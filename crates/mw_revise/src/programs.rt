@@ -48,8 +48,8 @@ impl<'a> Programs<'a> {
 }
 
 impl Block {
-    /// Its address in one of both programs.
-    pub(crate) fn address_on(&self, side: Side) -> u16
+    /// Its control address in one of both programs.
+    pub fn address_on(&self, side: Side) -> u16
         ensures { result ≡ address_on side self.now }
     {
         match side {
