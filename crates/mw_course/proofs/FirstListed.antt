@@ -90,7 +90,7 @@ same_parts a b regs q mar ir flips pc r stack = ap made (rw (regs, q, mar, ir, f
       stack = all.7;
     }
 
-parts_first : (board : BoardParts) (t : Table) (terms : List ℕ) (o : Symbolic) → element_count board ≤ length terms
+pub parts_first : (board : BoardParts) (t : Table) (terms : List ℕ) (o : Symbolic) → element_count board ≤ length terms
     → AreParts board t o.place.parts → HasElements board (take (element_count board) terms) o.place.parts
     → parts_with board terms ≡ o.place.parts
 parts_first board t terms o enough are new =
@@ -109,7 +109,7 @@ parts_first board t terms o enough are new =
 
 -- ---- where it stands
 
-same_standings : (a b : Standing) → a.side ≡ b.side → a.at ≡ b.at → a.sp ≡ b.sp → a.parts ≡ b.parts
+pub same_standings : (a b : Standing) → a.side ≡ b.side → a.at ≡ b.at → a.sp ≡ b.sp → a.parts ≡ b.parts
     → a.writes ≡ b.writes → a.events ≡ b.events → a.cycle ≡ b.cycle → a.taken ≡ b.taken → a.line ≡ b.line → a ≡ b
 same_standings a b side at sp parts writes events cycle taken line =
     ap made (rw (side, at, sp, parts, writes, events, cycle, taken, line) refl)

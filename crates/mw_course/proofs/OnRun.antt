@@ -111,7 +111,8 @@ pub on_turn : (job : Job) (number : ℕ) (elements : List ℕ) (bits : List Deci
     (space : Space)
     (board : Symbolic) (turn : Turn) → IsJob job → IsWorkspace old.space.terms old.space.words old.space.memory
     → IsSymbolic job.board job.store old.space.terms old.space.words old.space.memory old.board → old.board.asked ≡ None
-    → GoesOn (IsCycleKind old.board.place.side old.board.place.cycle old.board.place.taken) old.space.terms space.terms
+    → GoesOn (IsCycleKind old.board.place.side old.board.place.cycle old.board.place.taken old.board.place.line)
+    old.space.terms space.terms
     old.space.words space.words
     old.space.memory space.memory
     → IsTurn job.board job.store space.terms space.words old.space.memory space.memory old.board board turn
@@ -130,7 +131,8 @@ on_turn job number elements bits path old space board turn valid workspace symbo
     let before = ground_in old.space elements in
     let now = ground_in space elements in
     let count = old.board.place.cycle in
-    let to = goes_to (IsCycleKind old.board.place.side count old.board.place.taken) old.space space elements goes own in
+    let kinds = IsCycleKind old.board.place.side count old.board.place.taken old.board.place.line in
+    let to = goes_to kinds old.space space elements goes own in
     let there = cycles_are_there job.board job.store space.terms space.words space.memory board after in
     let law = paths_go_on job.board job.store old.space.terms space.terms old.space.words space.words old.space.memory
     space.memory old.board board turn (origin_of job number elements) bits

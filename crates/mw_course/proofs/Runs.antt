@@ -100,13 +100,13 @@ fresh_later K told tnew wold wnew mold mnew goes never none =
     probe_kept K told tnew wold wnew mold mnew goes never ∙ none
 
 -- a cycle makes none
-no_probe_in : (side : Side) (cycle taken : ℕ) → IsCycleKind side cycle taken Probe → ⊥
-no_probe_in side cycle taken kind = elim kind [
+no_probe_in : (side : Side) (cycle taken : ℕ) (line : Option ℕ) → IsCycleKind side cycle taken line Probe → ⊥
+no_probe_in side cycle taken line kind = elim kind [
   | inl h ↦ elim h [
     | inl k ↦ let is : Probe ≡ Base k.0 = k.1 in absurd cc
     | inr is ↦ absurd cc
   ]
-  | inr h ↦ no_variable side Probe h.0 cycle refl h.2
+  | inr h ↦ no_variable side Probe h.0 cycle refl h.3
 ]
 
 -- ---- turns
@@ -118,13 +118,13 @@ few_by (Some reading) = omega arith
 -- a turn
 pub turned : (job : Job) (told tnew : Table) (wold wnew : List Word) (mold mnew : Memory) (old new : Symbolic)
     (registers : List ℕ) (turn : Turn) → IsUnder job told wold mold old registers
-    → GoesOn (IsCycleKind old.place.side old.place.cycle old.place.taken) told tnew wold wnew mold mnew
+    → GoesOn (IsCycleKind old.place.side old.place.cycle old.place.taken old.place.line) told tnew wold wnew mold mnew
     → IsTurn job.board job.store tnew wnew mold mnew old new turn → IsSymbolic job.board job.store tnew wnew mnew new
     → length mnew.reads ≤ length mold.reads + reads_to_come old
     → (turn ≡ Finished → length old.place.decided ≡ bits_before (microword_of job.board job.store old.place) + 12)
     → IsTurned job old.place tnew wnew mnew new registers turn
 turned job told tnew wold wnew mold mnew old new registers (Ask kind term) under goes is symbolic reads all =
-    let K = IsCycleKind old.place.side old.place.cycle old.place.taken in
+    let K = IsCycleKind old.place.side old.place.cycle old.place.taken old.place.line in
     let cycle : new.place.cycle ≡ old.place.cycle = ap (λ (p : Progress). p.cycle) is.0 in
     let taken : new.place.taken ≡ old.place.taken = ap (λ (p : Progress). p.taken) is.0 in
     let none : reads_to_come new ≡ 0 = ap reads_by is.3.begun.1 in
@@ -138,7 +138,8 @@ turned job told tnew wold wnew mold mnew old new registers (Ask kind term) under
         taken = omega (arith, cycle, taken, under.taken);
         reads = omega (arith, none, reads, under.reads, cycle);
         fresh =
-            fresh_later K told tnew wold wnew mold mnew goes (no_probe_in old.place.side old.place.cycle old.place.taken) under.fresh;
+            fresh_later K told tnew wold wnew mold mnew goes
+            (no_probe_in old.place.side old.place.cycle old.place.taken old.place.line) under.fresh;
         line = λ some. line_read job tnew wnew mnew new is.3.begun.0 is.3.begun.1 symbolic
             (ap (λ (p : Progress). p.side) is.0 ∙ under.side) (ap (λ (p : Progress). p.line) is.0 ∙ under.unlined) before;
         count = under.count;
@@ -148,7 +149,7 @@ turned job told tnew wold wnew mold mnew old new registers (Ask kind term) under
       is.3,
     )
 turned job told tnew wold wnew mold mnew old new registers Finished under goes is symbolic reads all =
-    let K = IsCycleKind old.place.side old.place.cycle old.place.taken in
+    let K = IsCycleKind old.place.side old.place.cycle old.place.taken old.place.line in
     let few : reads_to_come new ≤ 1 = few_by new.reading in
     let enough = all refl in (
       record {
@@ -159,7 +160,8 @@ turned job told tnew wold wnew mold mnew old new registers Finished under goes i
         taken = omega (arith, is.2, is.3, under.taken);
         reads = omega (arith, few, reads, under.reads, is.2);
         fresh =
-            fresh_later K told tnew wold wnew mold mnew goes (no_probe_in old.place.side old.place.cycle old.place.taken) under.fresh;
+            fresh_later K told tnew wold wnew mold mnew goes
+            (no_probe_in old.place.side old.place.cycle old.place.taken old.place.line) under.fresh;
         line = λ some. line_later K told tnew wold wnew mold mnew goes (under.line (omega (arith, enough)));
         count = under.count;
         wide = λ i inside. width_later told tnew _ _ goes.later (under.wide i inside);

@@ -167,7 +167,7 @@ line_grew old new p same = ap (option_or p.line) same
 
 module _ (board : BoardParts) (m : Microword) (p : Progress) (t0 t1 t2 t3 t4 t5 t6 : Table)
     (w0 w1 w2 w3 w4 w5 w6 : List Word) (m0 m2 : Memory)
-    (goes : GoesOn (IsCycleKind p.side p.cycle p.taken) t0 t1 w0 w1 m0 m0)
+    (goes : GoesOn (IsCycleKind p.side p.cycle p.taken p.line) t0 t1 w0 w1 m0 m0)
     (taken : GoesOn (IsSourceKind p.taken) t1 t2 w1 w2 m0 m2) (two : Grew t2 t3 w2 w3) (three : Grew t3 t4 w3 w4)
     (four : Grew t4 t5 w4 w5) (five : Grew t5 t6 w5 w6) where
   pub behind_four : Grew t4 t6 w4 w6
@@ -179,13 +179,13 @@ module _ (board : BoardParts) (m : Microword) (p : Progress) (t0 t1 t2 t3 t4 t5 
   pub behind_two : Grew t2 t6 w2 w6
   behind_two = grew_then t2 t3 t6 w2 w3 w6 two behind_three
 
-  wider : (kind : WordKind) → IsSourceKind p.taken kind → IsCycleKind p.side p.cycle p.taken kind
+  wider : (kind : WordKind) → IsSourceKind p.taken kind → IsCycleKind p.side p.cycle p.taken p.line kind
   wider kind is = inl is
 
   -- the run went on
-  pub goes_on : GoesOn (IsCycleKind p.side p.cycle p.taken) t0 t6 w0 w6 m0 m2
+  pub goes_on : GoesOn (IsCycleKind p.side p.cycle p.taken p.line) t0 t6 w0 w6 m0 m2
   goes_on =
-      let kinds = IsCycleKind p.side p.cycle p.taken in
+      let kinds = IsCycleKind p.side p.cycle p.taken p.line in
       let second = goes_as (IsSourceKind p.taken) kinds t1 t2 w1 w2 m0 m2 wider taken in
       let first = goes_then kinds t0 t1 t2 w0 w1 w2 m0 m0 m2 goes second in
       goes_then kinds t0 t2 t6 w0 w2 w6 m0 m2 m2 first

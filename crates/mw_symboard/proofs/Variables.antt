@@ -166,11 +166,11 @@ module _ (side : Side) (own : Series) (by : goes_by_cycle own ≡ true) (cycle :
       subst (λ (ws : List Word). HaveWidth side board t1 ws series) (sym words)
       (widths_with side board t0 t1 w0 term own series cycle extends keeps fresh wide (are series))
 
-  pub goes_by_own : (taken : ℕ) (m : Memory) → Extends t0 t1 → Keeps t0 t1 → IsTable t1 → (AreOf t0 w0 → AreOf t1 w1)
-      → IsWorkspace t0 w0 m → GoesOn (IsCycleKind side cycle taken) t0 t1 w0 w1 m m
-  goes_by_own taken m extends keeps table of workspace =
-      goes_by_variable (IsCycleKind side cycle taken) t0 t1 w0 w1 m term (kind_of side own cycle) words extends keeps
-      table of (inr (own, by, refl)) (no_base side own cycle) workspace
+  pub goes_by_own : (taken : ℕ) (line : Option ℕ) → (own ≡ lists.Line → line ≡ None) → (m : Memory) → Extends t0 t1 → Keeps t0 t1 → IsTable t1 → (AreOf t0 w0 → AreOf t1 w1)
+      → IsWorkspace t0 w0 m → GoesOn (IsCycleKind side cycle taken line) t0 t1 w0 w1 m m
+  goes_by_own taken line unlined m extends keeps table of workspace =
+      goes_by_variable (IsCycleKind side cycle taken line) t0 t1 w0 w1 m term (kind_of side own cycle) words extends keeps
+      table of (inr (own, by, unlined, refl)) (no_base side own cycle) workspace
 
 -- none of a cycle or later, and so none later
 pub later_none : (side : Side) (cycle : ℕ) (words : List Word) → AreNoLater side cycle words

@@ -1,10 +1,9 @@
 -- The variables that a cycle makes, and the widths of a list's.
-use Rattle.std.specs.Prelude.{◌≡◌, ℕ, ◌⊎◌, List, true, Some}
+use Rattle.std.specs.Prelude.{◌≡◌, ℕ, ◌⊎◌, List, true, Option, Some, None}
 use Rattle.mw_board.specs.declared.parts.BoardParts.{BoardParts}
 use Rattle.mw_term.specs.declared.kinds.WordKind.{WordKind}
 use Rattle.mw_term.specs.declared.kinds.WordKind.TheVariants.{Base, Input}
-use Rattle.mw_cycle.specs.SteadySeries.{Series}
-use Rattle.mw_cycle.specs.SteadySeries.{goes_by_cycle, kind_of, width_of}
+use Rattle.mw_cycle.specs.SteadySeries.{Series, Line, goes_by_cycle, kind_of, width_of}
 use Rattle.mw_term.specs.declared.side.Side.{Side}
 use Rattle.mw_term.specs.Table.{Table}
 use Rattle.mw_term.specs.declared.word.Word.{Word}
@@ -15,10 +14,12 @@ use Rattle.mw_term.specs.WordList.{term_of}
 abbrev pub IsSourceKind : (taken : ℕ) → WordKind → Type 0
 IsSourceKind taken kind = ((k : ℕ) × (kind ≡ Base k)) ⊎ (kind ≡ Input taken)
 
--- a cycle of the board of a side makes these, and the variables of its values of the lists that go by cycle
-abbrev pub IsCycleKind : Side → (cycle taken : ℕ) → WordKind → Type 0
-IsCycleKind side cycle taken kind = IsSourceKind taken kind
-    ⊎ ((series : Series) × (goes_by_cycle series ≡ true) × (kind ≡ kind_of side series cycle))
+-- A cycle of the board of a side makes these, and the variables of its values of the lists that go by cycle; none for
+-- its line, where a term of that was there before.
+abbrev pub IsCycleKind : Side → (cycle taken : ℕ) → (line : Option ℕ) → WordKind → Type 0
+IsCycleKind side cycle taken line kind = IsSourceKind taken kind
+    ⊎ ((series : Series) × (goes_by_cycle series ≡ true) × (series ≡ Line → line ≡ None)
+    × (kind ≡ kind_of side series cycle))
 
 -- the variables of a list that there are have the list's width
 abbrev pub HaveWidth : Side → BoardParts → Table → List Word → Series → Type 0

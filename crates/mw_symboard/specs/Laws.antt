@@ -121,7 +121,7 @@ TurnsAreOfTheRun =
     (board : BoardParts) (store : List ℕ) (told tnew : Table) (wold wnew : List Word) (mold mnew : Memory)
     (old new : Symbolic) (turn : Turn) (given : Given) (x : Course) (bits : List Decided) → IsWorkspace told wold mold
     → IsSymbolic board store told wold mold old
-    → GoesOn (IsCycleKind old.place.side old.place.cycle old.place.taken) told tnew wold wnew mold mnew
+    → GoesOn (IsCycleKind old.place.side old.place.cycle old.place.taken old.place.line) told tnew wold wnew mold mnew
     → IsTurn board store tnew wnew mold mnew old new turn → FitsSoFar old.place.side board tnew wnew mnew given x
     → IsInRun board store told mold given x old bits
     → IsInRun board store tnew mnew given x new bits

@@ -97,7 +97,7 @@ PathsGoOn =
     (board : BoardParts) (store : List ℕ) (told tnew : Table) (wold wnew : List Word) (mold mnew : Memory)
     (old new : Symbolic) (turn : Turn) (b : Origin) (bits : List Decided) (path : Function) → IsWorkspace told wold mold
     → IsSymbolic board store told wold mold old
-    → GoesOn (IsCycleKind old.place.side old.place.cycle old.place.taken) told tnew wold wnew mold mnew
+    → GoesOn (IsCycleKind old.place.side old.place.cycle old.place.taken old.place.line) told tnew wold wnew mold mnew
     → IsTurn board store tnew wnew mold mnew old new turn → IsPath board store told wold mold b old bits path
     → IsPath board store tnew wnew mnew b new bits path
     × ((kind : DecidedKind) (term : ℕ) → turn ≡ Ask kind term

@@ -276,7 +276,7 @@ impl SymBoard {
         ensures place { self.new.place ≡ self.old.place }
         ensures events { self.new.events ≡ self.old.events }
         ensures asked { self.new.asked ≡ self.old.asked }
-        ensures goes { OnOk result (GoesOn (IsCycleKind self.old.place.side self.old.place.cycle self.old.place.taken)
+        ensures goes { OnOk result (GoesOn (IsCycleKind self.old.place.side self.old.place.cycle self.old.place.taken self.old.place.line)
             terms.old terms.new words.old words.new memory.old memory.new) }
         ensures writes { OnOk result (KeepsWrites memory.old memory.new) }
         ensures reads { OnOk result (length memory.new.reads ≤ length memory.old.reads + reads_to_come self.old) }
@@ -708,7 +708,7 @@ impl SymBoard {
         requires symbolic { IsSymbolic board.now store.now.words terms.old words.old memory.old self.old }
         ensures turn { IfOk result
             (IsTurn board.now store.now.words terms.new words.new memory.old memory.new self.old self.new) }
-        ensures goes { OnOk result (GoesOn (IsCycleKind self.old.place.side self.old.place.cycle self.old.place.taken)
+        ensures goes { OnOk result (GoesOn (IsCycleKind self.old.place.side self.old.place.cycle self.old.place.taken self.old.place.line)
             terms.old terms.new words.old words.new memory.old memory.new) }
         ensures reads { OnOk result (length memory.new.reads ≤ length memory.old.reads + reads_to_come self.old) }
         ensures other { OnOk result (writes_of memory.new (other_side self.old.place.side)

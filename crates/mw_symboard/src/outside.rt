@@ -1,5 +1,5 @@
 // The variables of a cycle: its line and its noise.
-ghost use Rattle.std.specs.Prelude.{◌≡◌, ℕ, ◌+◌, List, Some, None, IfOk, OnOk};
+ghost use Rattle.std.specs.Prelude.{◌≡◌, ℕ, ◌+◌, List, Option, Some, None, IfOk, OnOk};
 ghost use Rattle.std.specs.Option.{option_or};
 ghost use Rattle.mw_board.specs.declared.parts.BoardParts.{BoardParts};
 ghost use Rattle.mw_cycle.specs.ReadingWords.{line_words};
@@ -58,7 +58,7 @@ fn line_variable(
     ensures listed { IfOk result
         (Lists (with_variable (kind_of side Line cycle) 1) terms.old terms.new words.old words.new) }
     ensures goes { OnOk result ((taken : ℕ) (m : Memory) → IsWorkspace terms.old words.old m
-        → GoesOn (IsCycleKind side cycle taken) terms.old terms.new words.old words.new m m) }
+        → GoesOn (IsCycleKind side cycle taken None) terms.old terms.new words.old words.new m m) }
     ensures widths { OnOk result ((board : BoardParts) → HaveWidths side board terms.old words.old
         → HaveWidths side board terms.new words.new) }
     ensures noise { OnOk result (term_of words.new (kind_of side Noise cycle) ≡ None) }
@@ -83,7 +83,7 @@ fn line(
     ensures wide { IfOk result (IsOfWidth terms.new 1) }
     ensures listed { IfOk result (Lists (line_words side cycle there) terms.old terms.new words.old words.new) }
     ensures goes { OnOk result ((taken : ℕ) (m : Memory) → IsWorkspace terms.old words.old m
-        → GoesOn (IsCycleKind side cycle taken) terms.old terms.new words.old words.new m m) }
+        → GoesOn (IsCycleKind side cycle taken there) terms.old terms.new words.old words.new m m) }
     ensures widths { OnOk result ((board : BoardParts) → HaveWidths side board terms.old words.old
         → HaveWidths side board terms.new words.new) }
     ensures noise { OnOk result (term_of words.new (kind_of side Noise cycle) ≡ None) }
@@ -113,8 +113,8 @@ fn noise(
     ensures line { OnOk result (term_of words.new (kind_of side Line cycle) ≡ term_of words.old (kind_of side Line cycle)) }
     ensures listed { IfOk result
         (Lists (with_variable (kind_of side Noise cycle) 14) terms.old terms.new words.old words.new) }
-    ensures goes { OnOk result ((taken : ℕ) (m : Memory) → IsWorkspace terms.old words.old m
-        → GoesOn (IsCycleKind side cycle taken) terms.old terms.new words.old words.new m m) }
+    ensures goes { OnOk result ((taken : ℕ) (before : Option ℕ) (m : Memory) → IsWorkspace terms.old words.old m
+        → GoesOn (IsCycleKind side cycle taken before) terms.old terms.new words.old words.new m m) }
     ensures widths { OnOk result ((board : BoardParts) → HaveWidths side board terms.old words.old
         → HaveWidths side board terms.new words.new) }
     ensures none { OnOk result (AreNoLater side (cycle + 1) words.new) }
@@ -144,7 +144,7 @@ pub(crate) fn line_and_noise(
         (line.term ≡ v.line) × (with_variable (kind_of side Noise cycle) 14 line.list
         ≡ ended v.noise (list_of terms.new.ops words.new reads)))) }
     ensures goes { OnOk result ((taken : ℕ) (m : Memory) → IsWorkspace terms.old words.old m
-        → GoesOn (IsCycleKind side cycle taken) terms.old terms.new words.old words.new m m) }
+        → GoesOn (IsCycleKind side cycle taken there) terms.old terms.new words.old words.new m m) }
     ensures widths { OnOk result ((board : BoardParts) → HaveWidths side board terms.old words.old
         → HaveWidths side board terms.new words.new) }
     ensures none { OnOk result (AreNoLater side (cycle + 1) words.new) }

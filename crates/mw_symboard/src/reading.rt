@@ -484,7 +484,7 @@ impl Reading {
             → reading_words board.now microword.now
             (standing_of place.now (writes_of memory.old place.now.side) events)
             (list_in terms.old words.old memory.old) ≡ reading_in terms.new words.new memory.new reading) }
-        ensures goes { OnOk result (GoesOn (IsCycleKind place.now.side place.now.cycle place.now.taken)
+        ensures goes { OnOk result (GoesOn (IsCycleKind place.now.side place.now.cycle place.now.taken place.now.line)
             terms.old terms.new words.old words.new memory.old memory.new) }
         ensures reads { OnOk result (length memory.new.reads ≤ length memory.old.reads + 1) }
         ensures writes { OnOk result (KeepsWrites memory.old memory.new) }

@@ -89,7 +89,7 @@ few_reads t words m n memory none = elim (cases_lt n (length m.reads)) [
 -- a turn
 pub turned : (board : BoardParts) (store : List ℕ) (told tnew : Table) (wold wnew : List Word) (mold mnew : Memory)
     (old new : Symbolic) (turn : Turn) → IsUnder board store told wold mold old
-    → GoesOn (IsCycleKind old.place.side old.place.cycle old.place.taken) told tnew wold wnew mold mnew
+    → GoesOn (IsCycleKind old.place.side old.place.cycle old.place.taken old.place.line) told tnew wold wnew mold mnew
     → IsTurn board store tnew wnew mold mnew old new turn → IsSymbolic board store tnew wnew mnew new
     → IsTurned board store old.place.cycle tnew wnew mnew new turn
 turned board store told tnew wold wnew mold mnew old new (Ask kind term) under goes is symbolic =

@@ -19,9 +19,9 @@ returns-clause-listed c = λ reads. (
 pub returns-clause-goes : goal.returns-clause-goes
 returns-clause-goes c = λ taken m workspace.
     (let first = c.in_ok-line.ensures.goes taken m workspace in
-    goes_then (IsCycleKind c.args.side c.args.cycle taken) c.args.terms.now c.line.new.terms c.noise.new.terms
+    goes_then (IsCycleKind c.args.side c.args.cycle taken c.args.there) c.args.terms.now c.line.new.terms c.noise.new.terms
     c.args.words.now c.line.new.words c.noise.new.words m m m first
-    (c.in_ok-noise.ensures.goes taken m first.workspace))
+    (c.in_ok-noise.ensures.goes taken c.args.there m first.workspace))
 
 pub returns-clause-widths : goal.returns-clause-widths
 returns-clause-widths c = λ board are. c.in_ok-noise.ensures.widths board (c.in_ok-line.ensures.widths board are)

@@ -1,4 +1,4 @@
-use Rattle.std.proofs.Common.{◌≡◌, ◌+◌, ◌∷◌, [], ◌++◌, length, refl, ap, arith, sym, subst, ◌∙◌}
+use Rattle.std.proofs.Common.{◌≡◌, None, ◌+◌, ◌∷◌, [], ◌++◌, length, refl, ap, arith, sym, subst, ◌∙◌}
 use Rattle.mw_cycle.specs.SteadySeries.{Line, Noise, kind_of}
 use Rattle.mw_term.specs.WordList.{list_of, variable, with_variable}
 use Rattle.mw_symboard.proofs.VariableWidths.{wide_variable}
@@ -25,7 +25,7 @@ returns-clause-goes c = λ taken m workspace.
     let words = subst (λ k. c.fresh.new.self ≡ c.args.words.now ++ variable c.in_ok-term.term k ∷ []) c.line_kind.ensures
     c.in_ok-term.ensures.words in
     goes_by_own c.args.side Line refl c.args.cycle c.args.terms.now c.fresh.new.terms c.args.words.now c.fresh.new.self
-    c.in_ok-term.term fresh words taken m
+    c.in_ok-term.term fresh words taken None (λ is. refl) m
     e.extends e.keeps e.table e.of workspace)
 
 pub returns-clause-widths : goal.returns-clause-widths

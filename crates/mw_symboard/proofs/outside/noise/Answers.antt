@@ -19,13 +19,13 @@ returns-clause-wide c =
     c.in_ok-term.ensures.made
 
 pub returns-clause-goes : goal.returns-clause-goes
-returns-clause-goes c = λ taken m workspace.
+returns-clause-goes c = λ taken before m workspace.
     (let e = c.in_ok-term.ensures in
     let fresh = c.requires.fresh in
     let words = subst (λ k. c.fresh.new.self ≡ c.args.words.now ++ variable c.in_ok-term.term k ∷ []) c.noise_kind.ensures
     c.in_ok-term.ensures.words in
     goes_by_own c.args.side Noise refl c.args.cycle c.args.terms.now c.fresh.new.terms c.args.words.now c.fresh.new.self
-    c.in_ok-term.term fresh words taken m
+    c.in_ok-term.term fresh words taken before (λ is. absurd cc) m
     e.extends e.keeps e.table e.of workspace)
 
 pub returns-clause-widths : goal.returns-clause-widths

@@ -27,7 +27,7 @@ returns-then-known-before-clause-turn c =
 pub returns-then-known-before-clause-goes : goal.returns-then-known-before-clause-goes
 returns-then-known-before-clause-goes c =
     let goes = c.in_ok-begin.ensures.goes in
-    goes_further (IsCycleKind c.args.self.now.place.side c.args.self.now.place.cycle c.args.self.now.place.taken)
+    goes_further (IsCycleKind c.args.self.now.place.side c.args.self.now.place.cycle c.args.self.now.place.taken c.args.self.now.place.line)
     c.args.terms.now c.begin.new.terms
     c.ask_test.new.terms c.args.words.now c.begin.new.words c.ask_test.new.words c.args.memory.now c.begin.new.memory
     c.begin.new.memory goes c.in_ok-turn.ensures.grew (reads_itself c.begin.new.memory)
@@ -52,7 +52,7 @@ returns-then-known-before-2-clause-goes c =
     let goes = c.in_ok-begin.ensures.goes in
     let grew = grew_then c.begin.new.terms c.prepare.new.terms c.ask_next.new.terms c.begin.new.words
     c.prepare.new.words c.ask_next.new.words c.in_ok-prepare.ensures.grew c.in_ok-turn-2.ensures.grew in
-    goes_further (IsCycleKind c.args.self.now.place.side c.args.self.now.place.cycle c.args.self.now.place.taken)
+    goes_further (IsCycleKind c.args.self.now.place.side c.args.self.now.place.cycle c.args.self.now.place.taken c.args.self.now.place.line)
     c.args.terms.now c.begin.new.terms
     c.ask_next.new.terms c.args.words.now c.begin.new.words c.ask_next.new.words c.args.memory.now c.begin.new.memory
     c.begin.new.memory goes grew (reads_itself c.begin.new.memory)
@@ -84,7 +84,7 @@ returns-clause-turn c =
 pub returns-clause-goes : goal.returns-clause-goes
 returns-clause-goes c =
     let e = c.in_ok-finish.ensures in
-    goes_further (IsCycleKind c.args.self.now.place.side c.args.self.now.place.cycle c.args.self.now.place.taken)
+    goes_further (IsCycleKind c.args.self.now.place.side c.args.self.now.place.cycle c.args.self.now.place.taken c.args.self.now.place.line)
     c.args.terms.now c.begin.new.terms
     c.finish.new.terms c.args.words.now c.begin.new.words c.finish.new.words c.args.memory.now c.begin.new.memory
     c.finish.new.memory c.in_ok-begin.ensures.goes

@@ -126,7 +126,7 @@ returns-clause-is c =
     let n = c.in_ok-sources.sources in
     let a = slice_index p.parts.regs m.a_address in
     let width : c.bits-width.result ≡ b.width = cc in
-    let goes = subst (λ (q : Progress). GoesOn (IsCycleKind q.side q.cycle q.taken) t0 t1 w0 w1 m0 m0) c.place.view_is
+    let goes = subst (λ (q : Progress). GoesOn (IsCycleKind q.side q.cycle q.taken q.line) t0 t1 w0 w1 m0 m0) c.place.view_is
     (e1.goes c.place.inside.taken m0 c.requires.workspace) in
     let taken = subst (λ (q : Progress). GoesOn (IsSourceKind q.taken) t1 t2 w1 w2 m0 m2) c.place.view_is e2.goes in
     let first = parts_stay b t0 t1 p.parts goes.later.extends goes.later.keeps c.requires.parts in
@@ -162,7 +162,7 @@ returns-clause-goes c =
     let w2 = c.from_source.new.words in
     let m0 = c.args.memory.now in
     let m2 = c.from_source.new.memory in
-    let goes = subst (λ (q : Progress). GoesOn (IsCycleKind q.side q.cycle q.taken) t0 t1 w0 w1 m0 m0) c.place.view_is
+    let goes = subst (λ (q : Progress). GoesOn (IsCycleKind q.side q.cycle q.taken q.line) t0 t1 w0 w1 m0 m0) c.place.view_is
     (c.in_ok-variables.ensures.goes c.place.inside.taken m0 c.requires.workspace) in
     let taken = subst (λ (q : Progress). GoesOn (IsSourceKind q.taken) t1 t2 w1 w2 m0 m2) c.place.view_is
     c.in_ok-source.ensures.goes in
