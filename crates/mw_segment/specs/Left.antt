@@ -1,11 +1,11 @@
 -- The words that are left of a segment, along the decided bits that are still to come.
 use Rattle.std.specs.Prelude.{◌≡◌, ℕ, ◌+◌, ◌-◌, ◌≤◌, List, [], ◌∷◌, ◌++◌, Bool, None}
 use Rattle.mw_cycle.specs.BoardTerms.{Standing}
-use Rattle.mw_cycle.specs.SegmentWords.{Segment, SegmentEnd, behind_cycle, ended_by, segment_words}
+use Rattle.mw_cycle.specs.SegmentWords.{Segment, behind_cycle, ended_by, segment_words}
 use Rattle.mw_cycle.specs.SegmentWords.SegmentEnd.{wants, reaches, passes}
 use Rattle.mw_segment.specs.Programs.{Program}
-use Rattle.mw_segment.specs.declared.segment.Came.{Came}
-use Rattle.mw_segment.specs.declared.segment.Came.TheVariants as came
+use Rattle.mw_segment.specs.declared.cycles.Came.{Came}
+use Rattle.mw_segment.specs.declared.cycles.Came.TheVariants as came
 use Rattle.mw_space.specs.declared.space.Space.{Space}
 use Rattle.mw_space.specs.Spaces.{list_of_space}
 use Rattle.mw_symboard.specs.Along.{standing_in, words_left}

@@ -1,3 +1,4 @@
 pub mod Left
 pub mod Programs
 pub mod Segments
+pub mod Turns

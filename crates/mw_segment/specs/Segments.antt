@@ -1,42 +1,58 @@
 -- The first segment of a board on terms: its cycles up to the first that ends at a boundary, and no more than its bound.
-use Rattle.std.specs.Prelude.{◌≡◌, ℕ, ◌+◌, ◌<◌, ◌≤◌, ◌⊎◌, ◌∷◌, ◌++◌, List, [], length, All, Bool, true, false}
+use Rattle.std.specs.Prelude.{◌≡◌, ℕ, ◌<◌, ◌≤◌, ◌⊎◌, ◌∷◌, ◌++◌, List, [], length, All, Bool, true, false}
 use Rattle.std.specs.Prelude.{Option, Some, None}
 use Rattle.mw_cycle.specs.Boundary.{first_boundary, is_named}
 use Rattle.mw_cycle.specs.Decided.{decided}
-use Rattle.mw_cycle.specs.SteadySeries.{Series, goes_by_cycle, kind_of}
+use Rattle.mw_cycle.specs.SteadySeries.{Series, Line as LineOf, goes_by_cycle, kind_of}
 use Rattle.mw_segment.specs.Programs.{Program}
-use Rattle.mw_segment.specs.declared.segment.Came.{Came}
-use Rattle.mw_segment.specs.declared.segment.Came.TheVariants as came
+use Rattle.mw_segment.specs.declared.cycles.Came.{Came}
+use Rattle.mw_segment.specs.declared.cycles.Came.TheVariants as came
 use Rattle.mw_space.specs.declared.space.Space.{Space}
 use Rattle.mw_space.specs.Spaces.{IsSpaceOf}
+use Rattle.mw_symboard.specs.declared.reading.Reading.{Reading}
 use Rattle.mw_symboard.specs.Laws.{Course, IsBeginning, run_in}
 use Rattle.mw_symboard.specs.Parts.{AreParts, HasElements}
 use Rattle.mw_symboard.specs.Paths.{AreAll, AreOrigins, ArePassed, IsBy, IsNextBit, IsOneOf, IsPath, Origin}
+use Rattle.mw_symboard.specs.Seen.{Progress}
 use Rattle.mw_symboard.specs.Turns.{AreEvents, Asks, IsSymbolic, Symbolic, decided_so}
-use Rattle.mw_symmem.specs.Memory.{writes_of}
+use Rattle.mw_symmem.specs.Memory.{IsOfWidth, writes_of}
 use Rattle.mw_symmem.specs.Workspace.{IsLater, IsWorkspace, ReadsMore}
 use Rattle.mw_term.specs.Assigned.{Given}
 use Rattle.mw_term.specs.declared.decided.Decided.{Decided}
 use Rattle.mw_term.specs.declared.decided.DecidedKind.{DecidedKind}
 use Rattle.mw_term.specs.declared.kinds.WordKind.{WordKind}
-use Rattle.mw_term.specs.declared.kinds.WordKind.TheVariants.{Base, Input}
-use Rattle.mw_term.specs.declared.side.Side.{Side}
+use Rattle.mw_term.specs.declared.kinds.WordKind.TheVariants.{Base, Input, Line}
+use Rattle.mw_term.specs.declared.side.Side.TheVariants.{Board}
 use Rattle.mw_term.specs.declared.word.Word.{Word}
 use Rattle.mw_term.specs.Functions.{Function}
+use Rattle.mw_term.specs.Table.{Table}
+use Rattle.mw_term.specs.WordList.{term_of}
 
 -- ---- what a segment makes
 
--- the variables that the cycles of the board of a side make: of base reads, of inputs, and of its values of the lists
--- that go by cycle
-abbrev pub IsRunKind : Side → WordKind → Type 0
-IsRunKind side kind = ((n : ℕ) × (kind ≡ Base n)) ⊎ ((n : ℕ) × (kind ≡ Input n))
-    ⊎ ((series : Series) × (n : ℕ) × (goes_by_cycle series ≡ true) × (kind ≡ kind_of side series n))
+-- The variables that the cycles of a board make from a place on: of base reads, of inputs, and of its values of the lists
+-- that go by cycle, for this cycle and later ones; none for the line of this cycle, where a term of that was there before.
+abbrev pub IsRunKind : Progress → WordKind → Type 0
+IsRunKind from kind = ((n : ℕ) × (kind ≡ Base n)) ⊎ ((n : ℕ) × (kind ≡ Input n))
+    ⊎ ((series : Series) × (n : ℕ) × (goes_by_cycle series ≡ true) × (from.cycle ≤ n)
+    × (series ≡ LineOf → n ≡ from.cycle → from.line ≡ None) × (kind ≡ kind_of from.side series n))
+
+-- there is a variable of one bit for the line of the first cycle of a board on the board's side
+abbrev pub HasFirstLine : Table → List Word → Type 0
+HasFirstLine t words = (term : ℕ) × (term_of words (Line 0) ≡ Some term) × IsOfWidth t 1 term
+
+-- a board has a variable for the line of each cycle: that of the first one is there once the cycle has begun
+pub record HasLines (t : Table) (words : List Word) (o : Symbolic) : Type 0 where
+  pub unlined : o.place.line ≡ None
+  pub begun : (reading : Reading) → o.reading ≡ Some reading → HasFirstLine t words
+  pub later : 0 < o.place.cycle → HasFirstLine t words
 
 -- a board within a cycle of its segment, with what it works on
 pub record IsRunning (program : Program) (space : Space) (o : Symbolic) : Type 0 where
   pub space_of : IsSpaceOf program.board space.terms space.words space.memory
   pub symbolic : IsSymbolic program.board program.store space.terms space.words space.memory o
   pub taken : o.place.taken ≤ o.place.cycle
+  pub lines : o.place.side ≡ Board → HasLines space.terms space.words o
 
 -- ---- where it comes to
 

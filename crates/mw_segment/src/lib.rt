@@ -2,10 +2,10 @@
 //! its bound.
 #![tactic(auto)]
 
+mod cycles;
 mod laws;
 mod program;
-mod segment;
 
+pub use cycles::{Came, segment};
 pub use laws::{paths_go_on, words_begin};
 pub use program::Program;
-pub use segment::{Came, segment};

@@ -3,7 +3,7 @@ use mw_board::{Board, Store};
 use std::marker::Model;
 
 /// A program on a board.
-#[derive(Clone, Copy)]
+#[derive(Drop)]
 pub struct Program<'a> {
     /// The board.
     pub board: &'a Board,

@@ -1,5 +1,5 @@
 -- What both programs' boards begin with.
-use Rattle.std.specs.Prelude.{◌≡◌, ◌≢◌, ℕ, ◌+◌, ◌<◌, List, [], Option, Some, None, slice_get, slice_index}
+use Rattle.std.specs.Prelude.{◌≡◌, ◌≢◌, ℕ, ◌+◌, ◌<◌, List, Option, Some, None, slice_get, slice_index}
 use Rattle.mw_board.specs.declared.parts.BoardParts.{BoardParts}
 use Rattle.mw_board.specs.Elements.{element_count}
 use Rattle.mw_revise.specs.declared.keep.Block.{Block}
@@ -20,7 +20,7 @@ use Rattle.mw_symmem.specs.Memory.{Memory}
 use Rattle.mw_symmem.specs.Words.{HaveOwnKinds, IsVariable}
 use Rattle.mw_term.specs.Assigned.{Given}
 use Rattle.mw_term.specs.declared.kinds.WordKind.{WordKind}
-use Rattle.mw_term.specs.declared.kinds.WordKind.TheVariants.{Element, Line}
+use Rattle.mw_term.specs.declared.kinds.WordKind.TheVariants.{BesideLine, Element, Line}
 use Rattle.mw_term.specs.declared.word.Word.{Word}
 use Rattle.mw_term.specs.Table.{Table}
 use Rattle.mw_term.specs.Values.{term_value}
@@ -77,7 +77,8 @@ origin_on side block g = record {
 -- What there is between a block and what its runs work on, so that there are its twin starts: an old element that isn't
 -- fixed has a variable, a new one that is neither kept nor fixed has one of a number behind all old ones, a kept one is
 -- the old one's, and a fixed one has its value; both boards' variables have the widths of their lists, and there are
--- none of cycles from a number on; and no two variables have one kind.
+-- none of cycles from a number on; the first line has no variable of the new program's own, since it is the old one's;
+-- and no two variables have one kind.
 pub record IsGround (board : BoardParts) (block : Block) (g : Ground) : Type 0 where
   pub space : IsSpaceOf board g.table g.words g.memory
   pub wide : (side : Side) → AreElements board g.table (terms_on side g)
@@ -93,4 +94,5 @@ pub record IsGround (board : BoardParts) (block : Block) (g : Ground) : Type 0 w
       → (term_value g.table given (slice_index g.before n) ≡ old_value)
       × (term_value g.table given (slice_index g.after n) ≡ new_value)
   pub variables : (side : Side) → (cycles : ℕ) × HaveVariables (memory_side side) board g.table g.words cycles
+  pub unlined : term_of g.words (BesideLine 0) ≡ None
   pub own : HaveOwnKinds g.words

@@ -1,0 +1,17 @@
+pub mod BothEnvironments
+pub mod CaseWords
+pub mod ElementGround
+pub mod ElementLines
+pub mod ElementTerms
+pub mod ElementValues
+pub mod ElementWords
+pub mod Growing
+pub mod KeptLines
+pub mod OneSide
+pub mod StartElements
+pub mod StatesOf
+pub mod SteadyTwins
+pub mod TwinCases
+pub mod TwinStarts
+pub mod Unwaiting
+pub mod VariableNumbers
