@@ -26,7 +26,7 @@ use Rattle.mw_term.specs.Table.{Table}
 use Rattle.mw_term.specs.WordList.{term_of}
 
 -- it stays
-line_later : (told tnew : Table) (wold wnew more : List Word) → IsLater told tnew → wnew ≡ wold ++ more
+pub line_later : (told tnew : Table) (wold wnew more : List Word) → IsLater told tnew → wnew ≡ wold ++ more
     → HasFirstLine told wold → HasFirstLine tnew wnew
 line_later told tnew wold wnew more later words line = (
   line.0,

@@ -107,6 +107,8 @@ pub fn segment(
         space.new.words space.old.memory space.new.memory) }
     ensures own { OnOk result (HaveOwnKinds space.new.words) }
     ensures side { OnOk result (board.new.place.side ≡ board.old.place.side) }
+    ensures line { OnOk result (board.new.place.cycle ≡ board.old.place.cycle
+        → board.new.place.line ≡ board.old.place.line) }
     ensures other { OnOk result (writes_of space.new.memory (other_side board.old.place.side)
         ≡ writes_of space.old.memory (other_side board.old.place.side)) }
     ensures later { OnOk result (board.old.place.cycle ≤ board.new.place.cycle) }

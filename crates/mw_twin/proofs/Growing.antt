@@ -76,7 +76,7 @@ apart_sides Noise LineOf n m by other is = absurd cc
 apart_sides Noise Noise n m by other is = absurd cc
 
 -- the side of the other program
-abbrev other : Side → Side
+abbrev pub other : Side → Side
 other Old = New
 other New = Old
 

@@ -1,4 +1,5 @@
 pub mod BothEnvironments
+pub mod BothGrow
 pub mod CaseWords
 pub mod ElementGround
 pub mod ElementLines
@@ -7,6 +8,8 @@ pub mod ElementValues
 pub mod ElementWords
 pub mod Growing
 pub mod KeptLines
+pub mod NewBegun
+pub mod OldSegment
 pub mod OneSide
 pub mod StartElements
 pub mod StatesOf

@@ -1,7 +1,10 @@
+pub mod Comes
 pub mod ElementTerms
 pub mod ElementWords
 pub mod Grounds
 pub mod OnTwins
 pub mod Origins
 pub mod Programs
+pub mod Ready
+pub mod Scenes
 pub mod TwinPaths

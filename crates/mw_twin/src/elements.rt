@@ -274,6 +274,8 @@ pub struct Elements {
 pub fn elements_at(alloc: Global, board: &Board, block: &Block) -> Result<Elements, NoMemory>
     requires { IsBlock board.now block.now }
     ensures stands { IfOk result (λ e. IsGround board.now block.now (ground_in e.space e.before.items e.after.items)) }
+    ensures counts { IfOk result (λ e. (length e.before.items ≡ element_count board.now)
+        × (length e.after.items ≡ element_count board.now)) }
     ensures kinds { IfOk result (λ e. HaveKinds IsElementKind e.space.words) }
     ensures unread { IfOk result (λ e. e.space.memory.reads ≡ []) }
     ensures unwritten { IfOk result (λ e. (e.space.memory.board ≡ []) × (e.space.memory.machine ≡ [])) }

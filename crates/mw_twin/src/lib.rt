@@ -3,6 +3,9 @@
 
 mod elements;
 mod laws;
+mod segments;
+mod twins;
 
 pub use elements::{Elements, elements_at};
 pub use laws::twin_starts_are_there;
+pub use twins::Twins;
