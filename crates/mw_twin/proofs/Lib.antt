@@ -9,6 +9,7 @@ pub mod ElementWords
 pub mod Growing
 pub mod KeptLines
 pub mod NewBegun
+pub mod NewSegment
 pub mod OldSegment
 pub mod OneSide
 pub mod StartElements
