@@ -1,6 +1,7 @@
 pub mod BothEnvironments
 pub mod BothGrow
 pub mod CaseWords
+pub mod Courses
 pub mod ElementGround
 pub mod ElementLines
 pub mod ElementTerms

@@ -1,4 +1,5 @@
 pub mod Comes
+pub mod Courses
 pub mod ElementTerms
 pub mod ElementWords
 pub mod Grounds

@@ -1,0 +1,167 @@
+-- A course goes on through both segments of a case.
+use Rattle.std.proofs.Common.{◌≡◌, ℕ, ◌+◌, ◌<◌, ◌≤◌, List, length, Bool, true, false, Option, Some, None, refl, sym, ap, subst, ◌∙◌}
+use Rattle.std.proofs.Common.{arith}
+use Rattle.std.specs.Prelude.{is_some}
+use Rattle.mw_revise.specs.declared.programs.Side.TheVariants.{New, Old}
+use Rattle.mw_segment.specs.declared.cycles.Came.{Came}
+use Rattle.mw_segment.specs.declared.cycles.Came.TheVariants.{Asks, Reached, Late}
+use Rattle.mw_segment.specs.Segments.{HasCome}
+use Rattle.mw_space.specs.declared.space.Space.{Space}
+use Rattle.mw_symboard.specs.Turns.{Symbolic}
+use Rattle.mw_symmem.specs.declared.turn.Turn.{Turn}
+use Rattle.mw_symmem.specs.declared.turn.Turn.TheVariants.{Ask, Finished}
+use Rattle.mw_term.specs.declared.decided.Decided.{Decided}
+use Rattle.mw_term.specs.declared.decided.DecidedKind.{DecidedKind}
+use Rattle.mw_term.specs.Functions.{Function}
+use Rattle.mw_twin.specs.Comes.{ComesInNew, ComesInOld}
+use Rattle.mw_twin.specs.Courses.{GoesOnCourse, HasMetCase, HasRun, HaveCome, IsOnCourse, IsReadyIn}
+use Rattle.mw_twin.specs.Courses.{WaitsIn, WaitsOnCourse}
+use Rattle.mw_twin.specs.declared.course.Course.{Course}
+use Rattle.mw_twin.specs.OnTwins.{Behind, HasMetOld, IsOnNew, IsOnOld}
+use Rattle.mw_twin.specs.Programs.{program_on}
+use Rattle.mw_twin.specs.Ready.{IsInNew, IsInOld}
+use Rattle.mw_twin.specs.Scenes.{Scene}
+
+-- there is no new board before
+none_before : (after : Option Symbolic) → is_some after ≡ false → after ≡ None
+none_before None is = refl
+none_before (Some o) is = absurd cc
+
+-- the old segment goes on, on the paths through what was there, where the new board's elements have these terms
+abbrev pub GoesWith : Scene → (old : Course) → (elements : List ℕ) → Space → Symbolic → Came → Type 0
+GoesWith s old elements space o came = (own : List ℕ) (bits : List Decided) (path : Function)
+    → IsOnOld s.revision s.block old.space own elements old.before bits path
+    → ComesInOld s space own elements o bits path came
+
+-- the same for a course's own terms
+abbrev pub GoesInOld : Scene → (old : Course) → Space → Symbolic → Came → Type 0
+GoesInOld s old space o came = GoesWith s old old.elements.items space o came
+
+-- behind it the new segment begins, on each path on which it has ended at a boundary
+abbrev pub BeginsWith : Scene → (elements : List ℕ) → Space → (o after : Symbolic) → Type 0
+BeginsWith s elements space o after = (own : List ℕ) (bits : List Decided) (path : Function)
+    → HasMetOld s.revision s.block space own elements o bits path
+    → (b : Behind) × (b.board ≡ o) × IsOnNew s.revision s.block space own elements b after bits path
+
+-- a course whose old segment went on
+abbrev pub gone_on : Course → Space → Symbolic → Course
+gone_on old space o = record { space = space; before = o; elements = old.elements; after = old.after }
+
+-- it waits for a bit
+pub asks_on : (s : Scene) (old : Course) (space : Space) (o : Symbolic) (to : Came) (kind : DecidedKind) (term : ℕ)
+    → to ≡ Asks kind term → is_some old.after ≡ false → IsInOld s space o old.elements.items
+    → HasCome (program_on Old s.revision) s.block.bound space o to → GoesInOld s old space o to
+    → WaitsIn s (gone_on old space o) old.after kind term
+    × ((before : List ℕ) (bits : List Decided) (path : Function) → IsOnCourse s before bits path old old.after
+    → WaitsOnCourse s before bits path (gone_on old space o) old.after kind term)
+asks_on s old space o to kind term is none in_old come goes =
+    subst (λ (after : Option Symbolic). WaitsIn s (gone_on old space o) after kind term
+    × ((before : List ℕ) (bits : List Decided) (path : Function) → IsOnCourse s before bits path old after
+    → WaitsOnCourse s before bits path (gone_on old space o) after kind term)) (sym (none_before old.after none)) (
+      (in_old, subst (HasCome (program_on Old s.revision) s.block.bound space o) is come),
+      λ before bits path on.
+          subst (ComesInOld s space before old.elements.items o bits path) is (goes before bits path on),
+    )
+
+-- it is late
+pub late_on : (s : Scene) (old : Course) (space : Space) (o : Symbolic) (to : Came) → to ≡ Late
+    → is_some old.after ≡ false → IsInOld s space o old.elements.items
+    → HasCome (program_on Old s.revision) s.block.bound space o to → GoesInOld s old space o to
+    → HasRun (gone_on old space o)
+    × ((before : List ℕ) (bits : List Decided) (path : Function) → IsOnCourse s before bits path old old.after
+    → HasMetCase s before bits path (gone_on old space o) old.after)
+late_on s old space o to is none in_old come goes =
+    let late = subst (HasCome (program_on Old s.revision) s.block.bound space o) is come in
+    subst (λ (after : Option Symbolic). HasRun (gone_on old space o)
+    × ((before : List ℕ) (bits : List Decided) (path : Function) → IsOnCourse s before bits path old after
+    → HasMetCase s before bits path (gone_on old space o) after)) (sym (none_before old.after none)) (
+      record {
+        few = omega (arith, in_old.reads, late.2, in_old.scene.block_is.most);
+        fresh = in_old.fresh;
+      },
+      λ before bits path on.
+          subst (ComesInOld s space before old.elements.items o bits path) is (goes before bits path on),
+    )
+
+-- a course whose new segment has begun
+abbrev pub begun_on : Course → Space → (o after : Symbolic) → Course
+begun_on old space o after = record { space = space; before = o; elements = old.elements; after = Some after }
+
+-- the new segment begins
+pub reached_on : (s : Scene) (old : Course) (space : Space) (o after : Symbolic) (to : Came) → to ≡ Reached
+    → is_some old.after ≡ false → GoesInOld s old space o to → IsInNew s space o after → after.asked ≡ None
+    → after.place.cycle < s.block.bound → BeginsWith s old.elements.items space o after
+    → (next : Symbolic) × (Some after ≡ Some next) × IsReadyIn s (begun_on old space o after) (Some next)
+    × ((before : List ℕ) (bits : List Decided) (path : Function) → IsOnCourse s before bits path old old.after
+    → IsOnCourse s before bits path (begun_on old space o after) (Some next))
+reached_on s old space o after to is none goes in_new idle below begins = (
+  after,
+  refl,
+  (in_new, idle, below),
+  λ before bits path.
+      subst (λ (there : Option Symbolic). IsOnCourse s before bits path old there
+      → IsOnCourse s before bits path (begun_on old space o after) (Some after)) (sym (none_before old.after none))
+      (λ on. begins before bits path
+      (subst (ComesInOld s space before old.elements.items o bits path) is (goes before bits path on))),
+)
+
+-- ---- the new segment
+
+-- the new segment goes on, on the paths through what was there
+abbrev pub GoesInNew : Scene → (old : Course) → (before : Symbolic) → Space → (after : Symbolic) → Came → Type 0
+GoesInNew s old before space after came =
+    (own elements : List ℕ) (b : Behind) (bits : List Decided) (path : Function) → b.board ≡ old.before
+    → IsOnNew s.revision s.block old.space own elements b before bits path
+    → ComesInNew s space own elements b after bits path came
+
+-- a course whose new segment went on
+abbrev pub further_on : Course → Space → (after : Symbolic) → Course
+further_on old space after =
+    record { space = space; before = old.before; elements = old.elements; after = Some after }
+
+-- it waits for a bit
+pub new_asks_on : (s : Scene) (old : Course) (before : Symbolic) (space : Space) (after : Symbolic) (to : Came)
+    (kind : DecidedKind) (term : ℕ) → to ≡ Asks kind term → old.after ≡ Some before
+    → GoesInNew s old before space after to → GoesOnCourse s old (further_on old space after) (Ask kind term)
+new_asks_on s old before space after to kind term is there goes own bits path on =
+    let at = subst (IsOnCourse s own bits path old) there on in (
+      at.0,
+      at.1,
+      subst (ComesInNew s space own old.elements.items at.0 after bits path) is
+          (goes own old.elements.items at.0 bits path at.1 at.2),
+    )
+
+-- it has ended at a boundary
+pub new_reached_on : (s : Scene) (old : Course) (before : Symbolic) (space : Space) (after : Symbolic) (to : Came)
+    → to ≡ Reached → old.after ≡ Some before → GoesInNew s old before space after to
+    → GoesOnCourse s old (further_on old space after) Finished
+new_reached_on s old before space after to is there goes own bits path on =
+    let at = subst (IsOnCourse s own bits path old) there on in (
+      at.0,
+      at.1,
+      Some after.place.cycle,
+      subst (ComesInNew s space own old.elements.items at.0 after bits path) is
+          (goes own old.elements.items at.0 bits path at.1 at.2),
+    )
+
+-- it is late
+pub new_late_on : (s : Scene) (old : Course) (before : Symbolic) (space : Space) (after : Symbolic) (to : Came)
+    → to ≡ Late → old.after ≡ Some before → GoesInNew s old before space after to
+    → GoesOnCourse s old (further_on old space after) Finished
+new_late_on s old before space after to is there goes own bits path on =
+    let at = subst (IsOnCourse s own bits path old) there on in (
+      at.0,
+      at.1,
+      None,
+      subst (ComesInNew s space own old.elements.items at.0 after bits path) is
+          (goes own old.elements.items at.0 bits path at.1 at.2),
+    )
+
+-- ---- behind the old segment
+
+pub come_on : (s : Scene) (old new : Course) (o : Option Turn) → o ≡ None → HaveCome s old new o
+    → (before : List ℕ) (bits : List Decided) (path : Function) → IsOnCourse s before bits path old old.after
+    → IsOnCourse s before bits path new new.after
+come_on s old new o none come before bits path on =
+    let is = subst (HaveCome s old new) none come in
+    subst (λ (after : Option Symbolic). IsOnCourse s before bits path new after) (sym is.1) (is.3 before bits path on)
