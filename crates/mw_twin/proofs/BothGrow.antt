@@ -1,5 +1,5 @@
 -- What both boards' runs work on grows as one of them goes on.
-use Rattle.std.proofs.Common.{◌≡◌, inl, inr, ℕ, ◌≤◌, List, true, Option, Some, None, refl, sym, ap, subst, ◌∙◌, arith}
+use Rattle.std.proofs.Common.{◌≡◌, inl, inr, ℕ, ◌≤◌, List, true, Some, None, refl, sym, ap, subst, ◌∙◌, arith}
 use Rattle.mw_board.specs.declared.parts.BoardParts.{BoardParts}
 use Rattle.mw_cycle.specs.SteadySeries.{Series, Inputs, Line as LineOf, Noise, goes_by_cycle, kind_of}
 use Rattle.mw_course.proofs.Growing.{none_later}
@@ -19,7 +19,6 @@ use Rattle.mw_symmem.specs.Workspace.{GoesOn}
 use Rattle.mw_term.specs.declared.kinds.WordKind.TheVariants.{BesideLine, Probe}
 use Rattle.mw_term.specs.declared.side.Side.{Side as MemorySide}
 use Rattle.mw_term.specs.declared.side.Side.TheVariants.{Board, Machine}
-use Rattle.mw_term.specs.Table.{Table}
 use Rattle.mw_twin.specs.Origins.{IsGround, ground_in, line_for}
 use Rattle.mw_twin.specs.Scenes.{Scene}
 use Rattle.mw_twin.proofs.Growing.{GoesTo, other, others_stay}

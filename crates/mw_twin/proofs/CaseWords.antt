@@ -1,10 +1,10 @@
 -- The word lists of twin cases, by the words of both segments.
-use Rattle.std.proofs.Common.{◌≡◌, ℕ, List, [], ◌++◌, append-nil, Bool, Option, Some, None, refl, sym, ap, subst, ◌∙◌}
+use Rattle.std.proofs.Common.{◌≡◌, ℕ, List, [], ◌++◌, Bool, ap, ◌∙◌}
 use Rattle.std.proofs.lemmas.List.{map-append}
 use Rattle.mw_cycle.specs.BoardTerms.{Standing}
 use Rattle.mw_cycle.specs.SegmentWords.{Segment, ended_by}
 use Rattle.mw_cycle.specs.SegmentWords.SegmentEnd.{wants, reaches, passes}
-use Rattle.mw_rel.specs.CaseWords.{CaseWords, bit_values, stopped, whole}
+use Rattle.mw_rel.specs.CaseWords.{bit_values, stopped, whole}
 use Rattle.mw_rel.specs.ComparisonWords.{compared_in}
 use Rattle.mw_revise.specs.declared.keep.Block.{Block}
 use Rattle.mw_revise.specs.declared.programs.Side.TheVariants.{Old}

@@ -1,8 +1,8 @@
 -- A course goes on through both segments of a case.
-use Rattle.std.proofs.Common.{◌≡◌, ℕ, ◌+◌, ◌<◌, ◌≤◌, List, length, Bool, true, false, Option, Some, None, refl, sym, ap, subst, ◌∙◌}
+use Rattle.std.proofs.Common.{◌≡◌, ℕ, ◌<◌, List, false, Option, Some, None, refl, sym, subst}
 use Rattle.std.proofs.Common.{arith}
 use Rattle.std.specs.Prelude.{is_some}
-use Rattle.mw_revise.specs.declared.programs.Side.TheVariants.{New, Old}
+use Rattle.mw_revise.specs.declared.programs.Side.TheVariants.{Old}
 use Rattle.mw_segment.specs.declared.cycles.Came.{Came}
 use Rattle.mw_segment.specs.declared.cycles.Came.TheVariants.{Asks, Reached, Late}
 use Rattle.mw_segment.specs.Segments.{HasCome}

@@ -49,7 +49,7 @@ none_outside side words series n kinds =
     none_kind IsElementKind words (kind_of side series n) kinds
     (no_kind side IsElementKind (element_named side) series n)
 
-have_variables : (side : Side) (board : BoardParts) (t : Table) (words : List Word) → HaveKinds IsElementKind words
+pub have_variables : (side : Side) (board : BoardParts) (t : Table) (words : List Word) → HaveKinds IsElementKind words
     → HaveVariables side board t words 0
 have_variables side board t words kinds = record {
   widths = λ series n term is.

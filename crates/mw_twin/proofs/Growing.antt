@@ -1,41 +1,35 @@
 -- What is known of twin starts stays as the runs of both programs go on.
-use Rattle.std.proofs.Common.{◌≡◌, ◌≢◌, inl, inr, ℕ, ◌+◌, ◌<◌, List, ◌++◌, length, slice_index, ap, sym, subst, ◌∙◌, refl}
-use Rattle.std.specs.Prelude.{true, Bool, Option, Some, None}
-use Rattle.std.proofs.lemmas.Option.{same_Some}
+use Rattle.std.proofs.Common.{◌≡◌, inl, inr, ℕ, ◌+◌, ◌<◌, List, ◌++◌, slice_index, ap, sym, subst, ◌∙◌}
+use Rattle.std.specs.Prelude.{true, Some, None}
 use Rattle.mw_board.specs.declared.parts.BoardParts.{BoardParts}
 use Rattle.mw_board.specs.Elements.{element_count}
 use Rattle.mw_cycle.specs.SteadySeries.{Series, Inputs, Line as LineOf, Noise, goes_by_cycle, kind_of}
 use Rattle.mw_cycle.proofs.Named.{no_input}
 use Rattle.mw_revise.specs.declared.keep.Block.{Block}
-use Rattle.mw_revise.specs.declared.keep.KeepLine.TheVariants.{Equal, Fixed}
 use Rattle.mw_revise.specs.declared.programs.Side.{Side}
 use Rattle.mw_revise.specs.declared.programs.Side.TheVariants.{Old, New}
 use Rattle.mw_revise.specs.Revision.{Revision}
 use Rattle.mw_revise.specs.Sites.{address_on}
 use Rattle.mw_revise.specs.TwinStart.{TwinStart}
-use Rattle.mw_revise.specs.TwinStartWords.{line_about}
 use Rattle.mw_revise.specs.TwinWords.{memory_side}
 use Rattle.mw_segment.specs.Segments.{IsRunKind}
-use Rattle.mw_space.specs.declared.space.Space.{Space}
 use Rattle.mw_space.specs.Spaces.{IsSpaceOf}
-use Rattle.mw_symboard.specs.Kinds.{AreInputs}
 use Rattle.mw_symboard.specs.Laws.{BeginsWith, Course}
 use Rattle.mw_symboard.specs.Parts.{AreElements}
 use Rattle.mw_symboard.specs.Paths.{IsOneOf}
 use Rattle.mw_symboard.specs.Seen.{Progress}
 use Rattle.mw_symboard.specs.Variables.{HaveVariables, IsKindOfOthers}
-use Rattle.mw_symboard.proofs.Environments.{cycles_stay, either}
+use Rattle.mw_symboard.proofs.Environments.{cycles_stay}
 use Rattle.mw_symboard.proofs.Runs.{runs_fit_before}
 use Rattle.mw_symboard.proofs.Standing.{found_stays}
 use Rattle.mw_symboard.proofs.VariableWidths.{no_base}
-use Rattle.mw_symmem.specs.Memory.{IsOfWidth, Memory}
+use Rattle.mw_symmem.specs.Memory.{IsOfWidth}
 use Rattle.mw_symmem.specs.Words.{HaveOwnKinds, IsVariable}
-use Rattle.mw_symmem.specs.Workspace.{GoesOn, HaveKinds, IsLater, IsWorkspace, ReadsMore}
+use Rattle.mw_symmem.specs.Workspace.{HaveKinds, IsLater, ReadsMore}
 use Rattle.mw_symmem.proofs.Later.{width_later}
 use Rattle.mw_symmem.proofs.Lists.{behind}
 use Rattle.mw_term.specs.Assigned.{Given}
 use Rattle.mw_term.specs.declared.decided.Decided.{Decided}
-use Rattle.mw_term.specs.declared.kinds.WordKind.{WordKind}
 use Rattle.mw_term.specs.declared.kinds.WordKind.TheVariants.{BesideLine, Element, Line}
 use Rattle.mw_term.specs.declared.side.Side.{Side as MemorySide}
 use Rattle.mw_term.specs.declared.side.Side.TheVariants.{Board, Machine}
@@ -45,8 +39,8 @@ use Rattle.mw_term.specs.Table.{Table}
 use Rattle.mw_term.specs.Values.{term_value}
 use Rattle.mw_term.specs.WordList.{term_of, variable}
 use Rattle.mw_twin.specs.Grounds.{StandsForTwins, course_on}
-use Rattle.mw_twin.specs.Origins.{Ground, IsGround, ground_in, line_for, origin_on, terms_on}
-use Rattle.mw_twin.specs.TwinPaths.{HasTwinCase, IsOnWay, IsTwinPath}
+use Rattle.mw_twin.specs.Origins.{Ground, IsGround, line_for, origin_on, terms_on}
+use Rattle.mw_twin.specs.TwinPaths.{IsOnWay, IsTwinPath}
 
 -- Runs went on: terms, words and base reads were added behind those that there were, no two variables have one kind,
 -- there is a number of cycles beyond those of all variables of both boards, and the new one has none for its first line.

@@ -1,3 +1,4 @@
+pub mod BitsGiven
 pub mod BothEnvironments
 pub mod BothGrow
 pub mod CaseWords
@@ -11,6 +12,7 @@ pub mod Growing
 pub mod KeptLines
 pub mod NewBegun
 pub mod NewSegment
+pub mod OldBegun
 pub mod OldSegment
 pub mod OneSide
 pub mod StartElements

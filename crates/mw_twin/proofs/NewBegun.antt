@@ -1,14 +1,12 @@
 -- The new program's board behind an old segment that has ended at a boundary.
-use Rattle.std.proofs.Common.{◌≡◌, ℕ, ◌+◌, ◌-◌, ◌<◌, ◌≤◌, ◌^◌, List, [], ◌++◌, append-nil, length, take, Bool, true, false}
-use Rattle.std.proofs.Common.{Option, Some, None, refl, sym, ap, subst, ◌∙◌, arith}
-use Rattle.std.specs.Prelude.{slice_index, ◌&&◌}
+use Rattle.std.proofs.Common.{◌≡◌, ℕ, ◌-◌, ◌<◌, ◌≤◌, ◌^◌, List, [], append-nil, length, Bool, true, false}
+use Rattle.std.proofs.Common.{Option, Some, refl, sym, ap, subst, ◌∙◌, arith}
+use Rattle.std.specs.Prelude.{◌&&◌}
 use Rattle.std.proofs.lemmas.List.{get_or-take}
-use Rattle.mw_board.specs.declared.parts.BoardParts.{BoardParts}
 use Rattle.mw_board.specs.Depth.{depth_of}
 use Rattle.mw_board.specs.Elements.{element_count}
 use Rattle.mw_course.proofs.FirstListed.{parts_first, same_standings}
 use Rattle.mw_cycle.specs.BoardTerms.{Standing}
-use Rattle.mw_cycle.specs.Elements.{element_of}
 use Rattle.mw_cycle.specs.SegmentWords.{segment_words}
 use Rattle.mw_cycle.specs.SteadySeries.{Line as LineOf}
 use Rattle.mw_rel.specs.CaseWords.{parts_with}
@@ -16,26 +14,23 @@ use Rattle.mw_revise.specs.declared.programs.Side.TheVariants.{New, Old}
 use Rattle.mw_revise.specs.Revision.{addresses_of}
 use Rattle.mw_revise.specs.TwinWords as twin_words
 use Rattle.mw_segment.specs.declared.cycles.Came.TheVariants.{Reached}
-use Rattle.mw_segment.specs.Left.{IsAlongSegment, standing_on}
-use Rattle.mw_segment.specs.Segments.{HasCome, IsOnSegment, IsRunning}
+use Rattle.mw_segment.specs.Left.{standing_on}
+use Rattle.mw_segment.specs.Segments.{HasCome}
 use Rattle.mw_segment.proofs.AlongWords.{segments_begin}
 use Rattle.mw_segment.proofs.Staying.{segments_begin_on_paths}
 use Rattle.mw_space.specs.declared.space.Space.{Space}
 use Rattle.mw_space.specs.Spaces.{list_of_space}
-use Rattle.mw_symboard.specs.declared.reading.Reading.{Reading}
 use Rattle.mw_symboard.specs.Laws.{IsBeginning}
 use Rattle.mw_symboard.specs.Parts.{AreElements, AreParts, HasElements}
-use Rattle.mw_symboard.specs.Paths.{AreOrigins, Origin}
 use Rattle.mw_symboard.specs.Turns.{IsSymbolic, Symbolic, reads_by}
 use Rattle.mw_symboard.proofs.Runs.{elements_have_terms}
 use Rattle.mw_symmem.specs.Memory.{IsOfWidth, writes_of}
 use Rattle.mw_term.specs.declared.decided.Decided.{Decided}
 use Rattle.mw_term.specs.declared.kinds.WordKind.TheVariants.{Line}
-use Rattle.mw_term.specs.declared.side.Side.{Side}
 use Rattle.mw_term.specs.declared.side.Side.TheVariants.{Board, Machine}
 use Rattle.mw_term.specs.Functions.{Function}
 use Rattle.mw_term.specs.WordList.{term_of}
-use Rattle.mw_twin.specs.OnTwins.{Behind, HasMetOld, IsOnNew, behind_words}
+use Rattle.mw_twin.specs.OnTwins.{Behind, HasMetOld, IsOnNew}
 use Rattle.mw_twin.specs.Origins.{ground_in, origin_on}
 use Rattle.mw_twin.specs.Programs.{program_on}
 use Rattle.mw_twin.specs.Ready.{IsInNew, IsInOld}
@@ -49,7 +44,7 @@ and_true false = refl
 -- ---- where it stands
 
 -- the terms of its elements are its parts
-parts_are : (s : Scene) (space : Space) (terms : List ℕ) (o : Symbolic) → length terms ≡ element_count s.revision.board
+pub parts_are : (s : Scene) (space : Space) (terms : List ℕ) (o : Symbolic) → length terms ≡ element_count s.revision.board
     → AreParts s.revision.board space.terms o.place.parts → HasElements s.revision.board terms o.place.parts
     → parts_with s.revision.board terms ≡ o.place.parts
 parts_are s space terms o count are has =

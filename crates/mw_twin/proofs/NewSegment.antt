@@ -1,8 +1,6 @@
 -- Where the new program's segment comes to.
-use Rattle.std.proofs.Common.{◌≡◌, ℕ, ◌+◌, ◌-◌, ◌≤◌, List, [], ◌∷◌, ◌++◌, append-nil, append_assoc, length, Bool, Option}
+use Rattle.std.proofs.Common.{◌≡◌, ℕ, ◌+◌, ◌-◌, ◌≤◌, List, [], ◌++◌, append-nil, length, Bool, Option}
 use Rattle.std.proofs.Common.{Some, None, refl, sym, ap, subst, ◌∙◌, arith}
-use Rattle.std.specs.Prelude.{◌&&◌}
-use Rattle.mw_board.specs.declared.parts.BoardParts.{BoardParts}
 use Rattle.mw_course.proofs.Growing.{none_later}
 use Rattle.mw_cycle.specs.Decided.{decided}
 use Rattle.mw_cycle.specs.SegmentWords.{Segment, ended_by}
@@ -18,7 +16,6 @@ use Rattle.mw_segment.proofs.Staying.{ends_stay}
 use Rattle.mw_space.specs.declared.space.Space.{Space}
 use Rattle.mw_space.specs.Spaces.{list_of_space}
 use Rattle.mw_symboard.specs.Along.{standing_in}
-use Rattle.mw_symboard.specs.Parts.{AreParts}
 use Rattle.mw_symboard.specs.Paths.{Origin}
 use Rattle.mw_symboard.specs.Turns.{Symbolic, decided_so, other_side, reads_to_come}
 use Rattle.mw_symboard.proofs.Standing.{found_stays, parts_stay}
@@ -35,12 +32,12 @@ use Rattle.mw_term.specs.MemoryRead.{Held}
 use Rattle.mw_term.specs.WordList.{WordList, term_of}
 use Rattle.mw_twin.specs.Comes.{ComesInNew}
 use Rattle.mw_twin.specs.OnTwins.{Behind, IsBehind, IsOnNew, behind_words, new_words}
-use Rattle.mw_twin.specs.Origins.{ground_in, line_for, origin_on}
+use Rattle.mw_twin.specs.Origins.{ground_in, origin_on}
 use Rattle.mw_twin.specs.Programs.{program_on}
 use Rattle.mw_twin.specs.Ready.{IsInNew}
 use Rattle.mw_twin.specs.Scenes.{Scene}
 use Rattle.mw_twin.proofs.BothGrow.{line_wide, no_probe, own_variables}
-use Rattle.mw_twin.proofs.CaseWords.{new_asks, new_passes, new_reaches, new_terms, values_behind}
+use Rattle.mw_twin.proofs.CaseWords.{new_asks, new_passes, new_reaches, new_terms}
 use Rattle.mw_twin.proofs.Growing.{GoesTo, others_stay, way_later}
 use Rattle.mw_twin.proofs.OldSegment.{along_with}
 use Rattle.mw_twin.proofs.TwinCases.{both_case, next_of_new}

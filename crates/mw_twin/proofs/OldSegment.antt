@@ -1,8 +1,7 @@
 -- Where the old program's segment comes to.
-use Rattle.std.proofs.Common.{◌≡◌, ℕ, ◌+◌, ◌-◌, ◌≤◌, List, [], ◌∷◌, ◌++◌, append-nil, length, Bool, Option, Some, None}
-use Rattle.std.proofs.Common.{refl, sym, ap, subst, ◌∙◌, arith}
+use Rattle.std.proofs.Common.{◌≡◌, ℕ, ◌+◌, ◌-◌, ◌≤◌, List, [], ◌∷◌, ◌++◌, append-nil, length, Bool, Some, None}
+use Rattle.std.proofs.Common.{sym, ap, subst, ◌∙◌, arith}
 use Rattle.mw_cycle.specs.Decided.{decided}
-use Rattle.mw_cycle.specs.SegmentWords.{Segment}
 use Rattle.mw_course.proofs.Growing.{none_later}
 use Rattle.mw_rel.specs.CaseWords.{bit_values}
 use Rattle.mw_revise.specs.declared.programs.Side.TheVariants.{Old}
@@ -12,7 +11,6 @@ use Rattle.mw_segment.specs.Left.{ComesAlong, IsAlongSegment, standing_on}
 use Rattle.mw_segment.specs.Segments.{ComesOnPath, HasCome, IsRunKind, IsRunning}
 use Rattle.mw_space.specs.declared.space.Space.{Space}
 use Rattle.mw_space.specs.Spaces.{list_of_space}
-use Rattle.mw_symboard.specs.Seen.{Progress}
 use Rattle.mw_symboard.specs.Turns.{Symbolic, decided_so, other_side, reads_to_come}
 use Rattle.mw_symmem.specs.Memory.{writes_of}
 use Rattle.mw_symmem.specs.Workspace.{GoesOn}

@@ -1,5 +1,5 @@
 -- What the first segment of one of both programs decides, for the twin starts on a path.
-use Rattle.std.proofs.Common.{◌≡◌, inl, inr, ℕ, zero, suc, ◌+◌, ◌<◌, ◌≤◌, List, [], ◌∷◌, length, Bool, true, false, Option}
+use Rattle.std.proofs.Common.{◌≡◌, inl, inr, ℕ, zero, suc, ◌+◌, ◌<◌, ◌≤◌, List, length, Bool, true, false, Option}
 use Rattle.std.proofs.Common.{Some, None, refl, sym, ap, subst, ◌∙◌, arith}
 use Rattle.std.specs.Prelude.{All, slice_get, ◌==◌}
 use Rattle.std.specs.Option.{unwrap_or}
@@ -13,11 +13,10 @@ use Rattle.mw_revise.specs.declared.programs.Side.{Side}
 use Rattle.mw_revise.specs.Revision.{Revision, store_of}
 use Rattle.mw_revise.specs.TwinCase.{bits_of_segment, cycles_on, end_on}
 use Rattle.mw_revise.specs.TwinStart.{TwinStart}
-use Rattle.mw_segment.specs.Programs.{Program}
 use Rattle.mw_segment.specs.Segments.{HasEnded, IsOnSegment, first_end}
 use Rattle.mw_space.specs.declared.space.Space.{Space}
-use Rattle.mw_symboard.specs.Laws.{Course, bits_in, run_in}
-use Rattle.mw_symboard.specs.Paths.{ArePassed, IsNextBit, IsOneOf}
+use Rattle.mw_symboard.specs.Laws.{run_in}
+use Rattle.mw_symboard.specs.Paths.{IsNextBit}
 use Rattle.mw_symboard.specs.Turns.{Symbolic}
 use Rattle.mw_term.specs.Assigned.{Given}
 use Rattle.mw_term.specs.declared.decided.Decided.{Decided}
@@ -27,7 +26,7 @@ use Rattle.mw_term.specs.Values.{term_value}
 use Rattle.mw_twin.specs.Grounds.{StandsForTwins, course_on}
 use Rattle.mw_twin.specs.Origins.{ground_in, origin_on}
 use Rattle.mw_twin.specs.Programs.{program_on}
-use Rattle.mw_twin.proofs.SteadyTwins.{bits_steady, end_steady, segment_steady}
+use Rattle.mw_twin.proofs.SteadyTwins.{end_steady, segment_steady}
 
 -- a run that was at these addresses after its first cycles, none of which is a boundary's, has no first boundary up to
 -- there

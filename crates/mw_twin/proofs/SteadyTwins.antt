@@ -1,7 +1,5 @@
 -- Runs of both programs from twin starts in which no clock waits are runs of boards that never wait.
-use Rattle.std.proofs.Common.{◌≡◌, ℕ, zero, suc, List, [], ◌++◌, Option, Bool, refl, sym, ap, ap₂, ◌∙◌, subst}
-use Rattle.std.specs.Prelude.{if◌then◌else◌}
-use Rattle.std.specs.Option.{is_none, unwrap_or}
+use Rattle.std.proofs.Common.{◌≡◌, ℕ, zero, suc, List, [], ◌++◌, refl, sym, ap, ap₂, ◌∙◌}
 use Rattle.mw_board.specs.declared.parts.BoardParts.{BoardParts}
 use Rattle.mw_cycle.specs.Boundary.{first_boundary}
 use Rattle.mw_cycle.specs.Decided.{decided_of}
@@ -14,13 +12,10 @@ use Rattle.mw_cycle.specs.SteadyRun.{BoardRun as SteadyRun, run_of as steady_run
 use Rattle.mw_cycle.specs.Thinned.{but_clocks, never_waiting, thinned}
 use Rattle.mw_cycle.proofs.NeverWaiting.{nothing_is_thinned}
 use Rattle.mw_cycle.proofs.Thinning.{cycle_given, runs_are_thinned}
-use Rattle.mw_revise.specs.declared.keep.Block.{Block}
 use Rattle.mw_revise.specs.declared.programs.Side.{Side}
-use Rattle.mw_revise.specs.declared.programs.Side.TheVariants.{Old, New}
 use Rattle.mw_revise.specs.Revision.{Revision, addresses_of, store_of}
-use Rattle.mw_revise.specs.TwinCase.{bits_of_cycles, bits_of_segment, cycles_on, end_on, is_late_on}
+use Rattle.mw_revise.specs.TwinCase.{bits_of_cycles, bits_of_segment, cycles_on, end_on}
 use Rattle.mw_revise.specs.TwinStart.{TwinStart, address_after, run_on, start_on}
-use Rattle.mw_segment.specs.Programs.{Program}
 use Rattle.mw_segment.specs.Segments.{first_end}
 use Rattle.mw_space.specs.Entries.{but_waits}
 use Rattle.mw_symboard.specs.Laws.{bits_in, run_in}

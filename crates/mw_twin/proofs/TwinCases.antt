@@ -1,6 +1,6 @@
 -- What twin cases decide, by the segments of both programs.
-use Rattle.std.proofs.Common.{◌≡◌, ℕ, ◌+◌, ◌<◌, List, [], ◌++◌, append-nil, append_assoc, length, Bool, true, false}
-use Rattle.std.proofs.Common.{Option, Some, None, refl, sym, ap, ap₂, subst, ◌∙◌}
+use Rattle.std.proofs.Common.{◌≡◌, ℕ, ◌<◌, List, [], ◌++◌, append-nil, length, Bool, true, false}
+use Rattle.std.proofs.Common.{Option, Some, None, refl, sym, ap, ap₂, ◌∙◌}
 use Rattle.std.specs.Prelude.{slice_get, ◌==◌, ◌&&◌, if◌then◌else◌}
 use Rattle.std.specs.Option.{is_none, unwrap_or}
 use Rattle.mw_cycle.specs.Decided.{decided}
@@ -49,6 +49,12 @@ old_ended revision twins n ended =
     ap (λ (e : Option ℕ). bits_of_segment Old revision twins
     ++ (if is_none e then [] else bits_of_segment New revision twins)) ended
 
+-- what is both is each
+pub both_true : (a b : Bool) → (a && b) ≡ true → (a ≡ true) × (b ≡ true)
+both_true true true is = (refl, refl)
+both_true true false is = absurd cc
+both_true false b is = absurd cc
+
 module _ (revision : Revision) (block : Block) (space : Space) (before after : List ℕ) where
   -- a bit that the old segment asks for is the next of the case
   pub next_of_old : (o : Symbolic) (bits : List Decided) (path : Function)
@@ -86,12 +92,6 @@ module _ (revision : Revision) (block : Block) (space : Space) (before after : L
       twins stands holds in
       old_ended revision twins o.place.cycle is.0
       ∙ ap (λ (ds : List Decided). ds ++ bits_of_segment New revision twins) is.1
-
-  -- a path that is both is each
-  pub both_true : (a b : Bool) → (a && b) ≡ true → (a ≡ true) × (b ≡ true)
-  both_true true true is = (refl, refl)
-  both_true true false is = absurd cc
-  both_true false b is = absurd cc
 
   -- a bit that the new segment asks for is the next of the case
   pub next_of_new : (old o : Symbolic) (old_bits own bits : List Decided) (old_path along path : Function)

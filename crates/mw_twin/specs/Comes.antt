@@ -1,5 +1,5 @@
 -- Where both segments of a twin case come to.
-use Rattle.std.specs.Prelude.{◌≡◌, ℕ, List, Some, None}
+use Rattle.std.specs.Prelude.{ℕ, List, Some, None}
 use Rattle.mw_segment.specs.declared.cycles.Came.{Came}
 use Rattle.mw_segment.specs.declared.cycles.Came.TheVariants as came
 use Rattle.mw_space.specs.declared.space.Space.{Space}

@@ -1,22 +1,29 @@
 -- The course of a twin case: through the old program's segment, and behind that, where it has ended at a boundary, through
 -- the new one's.
-use Rattle.std.specs.Prelude.{◌≡◌, ℕ, ◌<◌, ◌≤◌, List, [], length, Bool, true, Option, Some, None}
+use Rattle.std.specs.Prelude.{◌≡◌, ℕ, ◌<◌, ◌≤◌, ◌∷◌, ◌++◌, List, [], length, Bool, Option, Some, None}
+use Rattle.mw_board.specs.declared.parts.BoardParts.{BoardParts}
+use Rattle.mw_cycle.specs.Decided.{decided}
 use Rattle.mw_revise.specs.declared.programs.Side.TheVariants.{New, Old}
 use Rattle.mw_segment.specs.Segments.{HasCome}
 use Rattle.mw_segment.specs.declared.cycles.Came.TheVariants.{Asks}
-use Rattle.mw_symboard.specs.Turns.{Symbolic, decided_so}
+use Rattle.mw_symboard.specs.Turns.{Asks as AsksOn, IsSymbolic, Symbolic, decided_so}
+use Rattle.mw_symmem.specs.Memory.{Memory}
 use Rattle.mw_symmem.specs.declared.turn.Turn.{Turn}
 use Rattle.mw_symmem.specs.declared.turn.Turn.TheVariants.{Ask, Finished}
 use Rattle.mw_term.specs.declared.decided.Decided.{Decided}
 use Rattle.mw_term.specs.declared.decided.DecidedKind.{DecidedKind}
 use Rattle.mw_term.specs.declared.kinds.WordKind.TheVariants.{Probe}
+use Rattle.mw_term.specs.declared.word.Word.{Word}
 use Rattle.mw_term.specs.Functions.{Function}
+use Rattle.mw_term.specs.Table.{Table}
 use Rattle.mw_term.specs.WordList.{term_of}
 use Rattle.mw_twin.specs.declared.course.Course.{Course}
+use Rattle.mw_twin.specs.Origins.{ground_in}
 use Rattle.mw_twin.specs.OnTwins.{AsksInNew, AsksInOld, Behind, HasMetNew, IsLateOld, IsOnNew, IsOnOld}
 use Rattle.mw_twin.specs.Programs.{program_on}
 use Rattle.mw_twin.specs.Ready.{IsInNew, IsInOld}
 use Rattle.mw_twin.specs.Scenes.{Scene}
+use Rattle.mw_twin.specs.TwinPaths.{HasDecided}
 
 -- ---- where it stands
 
@@ -94,18 +101,47 @@ HaveCome s old new (Some turn) = IsTurned s new turn × GoesOnCourse s old new t
 
 -- ---- a bit that is given
 
--- it waits for a bit, which may be given
-abbrev pub MayBeGiven : Course → Option Symbolic → Type 0
-MayBeGiven course None = ((kind : DecidedKind) × (course.before.asked ≡ Some kind))
-    × (length course.before.place.decided < 14)
-MayBeGiven course (Some after) = ((kind : DecidedKind) × (after.asked ≡ Some kind)) × (length after.place.decided < 14)
+-- the board of the segment that it is in waits for a bit, which may be given
+abbrev pub MayBeGiven : (before : Symbolic) → (after : Option Symbolic) → Type 0
+MayBeGiven before None = ((kind : DecidedKind) × (before.asked ≡ Some kind)) × (length before.place.decided < 14)
+MayBeGiven before (Some o) = ((kind : DecidedKind) × (o.asked ≡ Some kind)) × (length o.place.decided < 14)
 
--- a board with a bit more
-abbrev pub HasTaken : (value : Bool) → (old new : Symbolic) → Type 0
-HasTaken value old new = (kind : DecidedKind) → old.asked ≡ Some kind → new ≡ decided_so old kind value
+-- a board has taken the bit that it waited for
+pub record HasTaken (value : Bool) (old new : Symbolic) : Type 0 where
+  pub new_is : (kind : DecidedKind) → old.asked ≡ Some kind → new ≡ decided_so old kind value
+  pub symbolic : (board : BoardParts) (store : List ℕ) (t : Table) (words : List Word) (m : Memory)
+      (kind : DecidedKind) (term : ℕ) → AsksOn board store t words m old kind term
+      → IsSymbolic board store t words m old → IsSymbolic board store t words m new
 
--- whichever board waited has taken it, and the other is as it was
-abbrev pub IsGiven : (value : Bool) → (old new : Course) → Option Symbolic → Type 0
-IsGiven value old new None = (new.after ≡ None) × HasTaken value old.before new.before
-IsGiven value old new (Some after) = (new.before ≡ old.before)
-    × ((next : Symbolic) × (new.after ≡ Some next) × HasTaken value after next)
+-- whichever waited has taken it, and the other is as it was
+abbrev pub IsGiven : (value : Bool) → (old new : Symbolic) → (before after : Option Symbolic) → Type 0
+IsGiven value old new None after = (after ≡ None) × HasTaken value old new
+IsGiven value old new (Some o) after =
+    (next : Symbolic) × (after ≡ Some next) × (new ≡ old) × HasTaken value o next
+
+-- another course over what this one works on, with this value for the bit that is waited for
+pub record IsGivenTo (value : Bool) (course other : Course) : Type 0 where
+  pub space : other.space ≡ course.space
+  pub elements : other.elements.items ≡ course.elements.items
+  pub given : IsGiven value course.before other.before course.after other.after
+
+-- ---- the law of bits
+
+-- a bit was decided by its term: the course is on its way with one more, along the path by it
+abbrev pub HasDecidedOn : Scene → (before : List ℕ) → (bits : List Decided) → (path next : Function) → Course
+    → DecidedKind → (term : ℕ) → (value : Bool) → Type 0
+HasDecidedOn s before bits path next course kind term value =
+    HasDecided s.revision s.block (ground_in course.space before course.elements.items) bits path next kind term value
+
+-- A course that waits for a bit is ready once it is given.
+abbrev pub BitsMakeReady : Type 0
+BitsMakeReady = (s : Scene) (old new : Course) (kind : DecidedKind) (term : ℕ) (value : Bool)
+    → WaitsIn s old old.after kind term → IsGivenTo value old new → IsReady s new
+
+-- And it is on its way with one bit more, along the path by it, through the cases that begin with its bits.
+abbrev pub BitsGoOnCourse : Type 0
+BitsGoOnCourse = (s : Scene) (before : List ℕ) (bits : List Decided) (path next : Function) (old new : Course)
+    (kind : DecidedKind) (term : ℕ) (value : Bool) → WaitsIn s old old.after kind term
+    → WaitsOnCourse s before bits path old old.after kind term → IsGivenTo value old new
+    → HasDecidedOn s before bits path next old kind term value
+    → IsOnCourse s before (bits ++ decided kind value ∷ []) next new new.after

@@ -1,10 +1,10 @@
 -- A course on its way through a twin case: through the segment of the old program's board, and behind that through the
 -- new one's.
-use Rattle.std.specs.Prelude.{◌≡◌, ℕ, ◌++◌, ◌∷◌, List, [], Bool, ◌&&◌, Option, Some, None, is_none}
+use Rattle.std.specs.Prelude.{◌≡◌, ℕ, ◌++◌, ◌∷◌, List, [], Bool, ◌&&◌, Option, Some, None}
 use Rattle.mw_cycle.specs.Decided.{decided}
 use Rattle.mw_cycle.specs.SegmentWords.{Segment, ended_by}
-use Rattle.mw_cycle.specs.SegmentWords.SegmentEnd.{reaches, passes}
-use Rattle.mw_rel.specs.CaseWords.{CaseWords, bit_values, stopped, whole}
+use Rattle.mw_cycle.specs.SegmentWords.SegmentEnd.{reaches}
+use Rattle.mw_rel.specs.CaseWords.{bit_values, stopped, whole}
 use Rattle.mw_rel.specs.ComparisonWords.{compared_in}
 use Rattle.mw_revise.specs.declared.keep.Block.{Block}
 use Rattle.mw_revise.specs.declared.programs.Side.TheVariants.{Old, New}
@@ -24,7 +24,7 @@ use Rattle.mw_term.specs.declared.decided.DecidedKind.{DecidedKind}
 use Rattle.mw_term.specs.declared.kinds.WordKind.TheVariants.{Line}
 use Rattle.mw_term.specs.Functions.{Function}
 use Rattle.mw_term.specs.WordList.{WordList, term_of}
-use Rattle.mw_twin.specs.Origins.{Ground, ground_in, origin_on}
+use Rattle.mw_twin.specs.Origins.{ground_in, origin_on}
 use Rattle.mw_twin.specs.Programs.{program_on}
 use Rattle.mw_twin.specs.TwinPaths.{HasTwinCase, IsNextOfTwins, IsOnWay}
 

@@ -1,18 +1,31 @@
 // The course of a twin case: through the old program's segment, and behind that through the new one's.
-ghost use Rattle.std.specs.Prelude.{◌≡◌, ◌<◌, ℕ, List, [], Bool, Some, None, IfOk, OnOk, true};
-ghost use Rattle.mw_symboard.specs.Turns.{Symbolic};
-ghost use Rattle.mw_symmem.specs.Workspace.{IsLater};
+ghost use Rattle.std.specs.Prelude.{◌≡◌, ◌<◌, ◌≤◌, ◌^◌, ℕ, List, [], Some, None, IfOk, OnOk, length, true};
+ghost use Rattle.mw_board.specs.Depth.{depth_of};
+ghost use Rattle.mw_board.specs.Elements.{element_count};
+ghost use Rattle.mw_revise.specs.Kept.{IsBlock};
+ghost use Rattle.mw_revise.specs.TwinStartWords.{twin_start_words};
+ghost use Rattle.mw_space.specs.Spaces.{list_of_space};
+ghost use Rattle.mw_symboard.specs.Kinds.{HaveWidths};
+ghost use Rattle.mw_symboard.specs.Laws.{IsBeginning};
+ghost use Rattle.mw_symboard.specs.Parts.{AreElements, HasElements};
+ghost use Rattle.mw_symboard.specs.Turns.{AreNoLater, IsSymbolic, Symbolic};
+ghost use Rattle.mw_symmem.specs.Memory.{Memory};
+ghost use Rattle.mw_symmem.specs.Workspace.{HaveKinds, IsLater};
 ghost use Rattle.mw_term.specs.Cofactors.{Agree};
-ghost use Rattle.mw_term.specs.declared.decided.Decided.{Decided};
+ghost use Rattle.mw_term.specs.declared.side.Side.TheVariants.{Board};
+ghost use Rattle.mw_term.specs.declared.word.Word.{Word};
 ghost use Rattle.mw_term.specs.Functions.{Function, always};
-ghost use Rattle.mw_twin.specs.Courses.{GoesOnCourse, HasRun, HaveCome, IsGiven, IsOnCourse, IsReady, IsReadyIn};
-ghost use Rattle.mw_twin.specs.Courses.{IsTurned, IsTurnedOnCourse, MayBeGiven};
+ghost use Rattle.mw_term.specs.Table.{Table};
+ghost use Rattle.mw_twin.specs.Origins.{IsElementKind, IsGround, ground_in};
+ghost use Rattle.mw_twin.specs.Courses.{GoesOnCourse, HaveCome, IsGiven, IsOnCourse, IsReady, IsReadyIn, IsTurned};
+ghost use Rattle.mw_twin.specs.Courses.{MayBeGiven};
 ghost use Rattle.mw_twin.specs.Scenes.{IsScene};
 
 use crate::elements::{Elements, elements_at};
 use crate::segments::{begin_new, go_new, go_old};
 use crate::twins::Twins;
 use mw_base::NoMemory;
+use mw_revise::Side;
 use mw_segment::Came;
 use mw_space::Space;
 use mw_symboard::SymBoard;
@@ -33,7 +46,88 @@ pub struct Course {
     pub after: Option<SymBoard>,
 }
 
+/// The old program's board at the block, with these terms for its elements.
+fn board_at(alloc: Global, twins: &Twins, elements: &[Term]) -> Result<SymBoard, NoMemory>
+    requires { length elements.now ≡ element_count twins.now.revision.board }
+    ensures elements { IfOk result (λ b. HasElements twins.now.revision.board elements.now b.place.parts) }
+    ensures begins { IfOk result (λ b. IsBeginning Board twins.now.block.before twins.now.block.sp None b) }
+    ensures symbolic { IfOk result (λ b. (store : List ℕ) (t : Table) (words : List Word) (m : Memory)
+        → twins.now.block.before < 2 ^ 12 → twins.now.block.sp ≤ depth_of twins.now.revision.board
+        → AreElements twins.now.revision.board t elements.now
+        → HaveWidths Board twins.now.revision.board t words → AreNoLater Board 0 words
+        → IsSymbolic twins.now.revision.board store t words m b) }
+{
+    let block = twins.block;
+    let revision = twins.revision;
+    let address = block.address_on(Side::Old);
+    let board = SymBoard::new(alloc, &revision.board, address, block.sp, elements)?;
+    Ok(board)
+}
+
+/// The elements of both boards at the block.
+fn elements(alloc: Global, twins: &Twins) -> Result<Elements, NoMemory>
+    requires { IsBlock twins.now.revision.board twins.now.block }
+    ensures stands { IfOk result (λ e. IsGround twins.now.revision.board twins.now.block
+        (ground_in e.space e.before.items e.after.items)) }
+    ensures counts { IfOk result (λ e. (length e.before.items ≡ element_count twins.now.revision.board)
+        × (length e.after.items ≡ element_count twins.now.revision.board)) }
+    ensures kinds { IfOk result (λ e. HaveKinds IsElementKind e.space.words) }
+    ensures unread { IfOk result (λ e. e.space.memory.reads ≡ []) }
+    ensures unwritten { IfOk result (λ e. (e.space.memory.board ≡ []) × (e.space.memory.machine ≡ [])) }
+    ensures listed { IfOk result (λ e. twin_start_words twins.now.revision.board twins.now.block.lines ≡ record {
+      list = list_of_space e.space;
+      old_terms = e.before.items;
+      new_terms = e.after.items;
+    }) }
+{
+    let revision = twins.revision;
+    let made = elements_at(alloc, &revision.board, twins.block)?;
+    Ok(made)
+}
+
+/// Gives the bit that is waited for its value.
+fn give(before: &mut SymBoard, after: &mut Option<SymBoard>, value: bool)
+    requires { MayBeGiven before.old after.old }
+    ensures { IsGiven value before.old before.new after.old after.new }
+{
+    match after {
+        Some(after) => after.decide(value),
+        None => before.decide(value),
+    }
+}
+
+/// The same board once more, if there is one.
+fn copied(alloc: Global, board: &Option<SymBoard>) -> Result<Option<SymBoard>, NoMemory>
+    ensures { IfOk result (λ copy. copy ≡ board.now) }
+{
+    match board {
+        Some(board) => Ok(Some(board.copy(alloc)?)),
+        None => Ok(None),
+    }
+}
+
 impl Course {
+    /// One that stands at the block, and has made no cycle: each twin start there takes its path.
+    ///
+    /// # Errors
+    ///
+    /// Memory ran out.
+    pub fn new(alloc: Global, twins: &Twins) -> Result<Course, NoMemory>
+        requires { IsScene twins.now }
+        ensures ready { IfOk result (IsReady twins.now) }
+        ensures first { IfOk result (λ course. (before : List ℕ) × ((path : Function) → Agree path always
+            → IsOnCourse twins.now before [] path course course.after)) }
+    {
+        let made = elements(alloc, twins)?;
+        let board = board_at(alloc, twins, &made.before)?;
+        Ok(Course {
+            space: made.space,
+            before: board,
+            elements: made.after,
+            after: None,
+        })
+    }
+
     /// Goes on to where the new segment begins, if that isn't there yet: nothing where it is there then, and else what is
     /// waited for, or that the old segment is late.
     fn to_new(&mut self, alloc: Global, twins: &Twins) -> Result<Option<Turn>, NoMemory>
@@ -93,5 +187,37 @@ impl Course {
             return Ok(turn);
         }
         self.turn_new(alloc, twins)
+    }
+
+    /// Gives the bit that is waited for its value.
+    pub fn decide(&mut self, value: bool)
+        requires { MayBeGiven self.old.before self.old.after }
+        ensures given { IsGiven value self.old.before self.new.before self.old.after self.new.after }
+        ensures space { self.new.space ≡ self.old.space }
+        ensures elements { self.new.elements ≡ self.old.elements }
+    {
+        give(&mut self.before, &mut self.after, value);
+    }
+
+    /// Another one over the same, for which the bit that is waited for is 1.
+    ///
+    /// # Errors
+    ///
+    /// Memory ran out.
+    pub fn other(&self, alloc: Global) -> Result<Course, NoMemory>
+        requires { MayBeGiven self.now.before self.now.after }
+        ensures given { IfOk result
+            (λ other. IsGiven true self.now.before other.before self.now.after other.after) }
+        ensures space { IfOk result (λ other. other.space ≡ self.now.space) }
+        ensures elements { IfOk result (λ other. other.elements.items ≡ self.now.elements.items) }
+    {
+        let mut other = Course {
+            space: self.space.copy(alloc)?,
+            before: self.before.copy(alloc)?,
+            elements: Vec::from_slice(alloc, &self.elements)?,
+            after: copied(alloc, &self.after)?,
+        };
+        give(&mut other.before, &mut other.after, true);
+        Ok(other)
     }
 }

@@ -2,6 +2,7 @@
 ghost use Rattle.mw_revise.specs.declared.keep.Block.{Block};
 ghost use Rattle.mw_revise.specs.Kept.{IsBlock};
 ghost use Rattle.mw_revise.specs.Revision.{IsBlockOf, IsRevision, Revision};
+ghost use Rattle.mw_twin.specs.Courses.{BitsGoOnCourse, BitsMakeReady};
 ghost use Rattle.mw_twin.specs.Grounds.{HaveTwinStarts};
 ghost use Rattle.mw_twin.specs.Origins.{AreNamedOnce, Ground, IsGround};
 
@@ -11,4 +12,11 @@ pub fn twin_starts_are_there()
     ensures { (revision : Revision) (block : Block) (g : Ground) → IsRevision revision → IsBlockOf revision block
         → IsBlock revision.board block → AreNamedOnce block.lines → IsGround revision.board block g
         → HaveTwinStarts revision block g }
+{}
+
+/// The law of bits: a course that waits for a bit is ready once it is given; and where the bit was decided by its term, it
+/// is on its way with one bit more, along the path by it.
+pub fn courses_take_bits()
+    ensures ready { BitsMakeReady }
+    ensures on { BitsGoOnCourse }
 {}

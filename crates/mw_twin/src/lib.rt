@@ -9,5 +9,5 @@ mod twins;
 
 pub use course::Course;
 pub use elements::{Elements, elements_at};
-pub use laws::twin_starts_are_there;
+pub use laws::{courses_take_bits, twin_starts_are_there};
 pub use twins::Twins;

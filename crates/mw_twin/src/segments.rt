@@ -127,14 +127,7 @@ fn board_beside(
     let block = twins.block;
     let revision = twins.revision;
     let address = block.address_on(Side::New);
-    let board = SymBoard::beside(
-        alloc,
-        &revision.board,
-        address,
-        block.sp,
-        elements,
-        line,
-    )?;
+    let board = SymBoard::beside(alloc, &revision.board, address, block.sp, elements, line)?;
     Ok(board)
 }
 

@@ -1,4 +1,4 @@
-use Rattle.std.proofs.Common.{◌≡◌, subst, sym}
+use Rattle.std.proofs.Common.{subst, sym}
 use Rattle.mw_revise.specs.declared.programs.Side.TheVariants.{New}
 use Rattle.mw_symboard.specs.Turns.{Symbolic}
 use Rattle.mw_term.specs.declared.side.Side.TheVariants.{Machine}

@@ -1,0 +1,29 @@
+use Rattle.std.proofs.Common.{ℕ, ◌<◌, ◌≤◌, ◌^◌, List, subst}
+use Rattle.mw_board.specs.declared.parts.BoardParts.{BoardParts}
+use Rattle.mw_board.specs.Depth.{depth_of}
+use Rattle.mw_revise.specs.Revision.{Revision}
+use Rattle.mw_symboard.specs.Kinds.{HaveWidths}
+use Rattle.mw_symboard.specs.Parts.{AreElements}
+use Rattle.mw_symboard.specs.Turns.{AreNoLater, IsSymbolic, Symbolic}
+use Rattle.mw_symmem.specs.Memory.{Memory}
+use Rattle.mw_term.specs.declared.side.Side.TheVariants.{Board}
+use Rattle.mw_term.specs.declared.word.Word.{Word}
+use Rattle.mw_term.specs.Table.{Table}
+use Rattle.mw_twin.specs.Scenes.{Scene}
+use Rattle.mw_twin.proofs.course.board_at.Goals as goal
+
+-- it may go on where its address, its stack pointer and its terms are those of a board
+abbrev MayGoOn : BoardParts → (at sp : ℕ) → (elements : List ℕ) → Symbolic → Type 0
+MayGoOn board at sp elements o = (store : List ℕ) (t : Table) (words : List Word) (m : Memory) → at < 2 ^ 12
+    → sp ≤ depth_of board → AreElements board t elements → HaveWidths Board board t words
+    → AreNoLater Board 0 words → IsSymbolic board store t words m o
+
+pub returns-clause-symbolic : goal.returns-clause-symbolic
+returns-clause-symbolic c =
+    let elements = c.args.elements.now in
+    let o = c.in_ok-board.board in
+    let block = c.twins.inside.block.now in
+    subst (λ (s : Scene). MayGoOn s.revision.board s.block.before s.block.sp elements o) c.twins.view_is
+    (subst (λ (r : Revision). MayGoOn r.board block.before block.sp elements o) c.revision.view_is
+    (subst (λ (at : ℕ). MayGoOn c.revision.inside.board at block.sp elements o) c.address_on-address.ensures
+    c.in_ok-board.ensures.symbolic))
