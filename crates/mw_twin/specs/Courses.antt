@@ -34,6 +34,7 @@ IsReadyIn s course None = IsInOld s course.space course.before course.elements.i
 IsReadyIn s course (Some after) = IsInNew s course.space course.before after
     × (after.asked ≡ None) × (after.place.cycle < s.block.bound)
 
+-- it waits for no bit, in whichever segment it is
 abbrev pub IsReady : Scene → Course → Type 0
 IsReady s course = IsReadyIn s course course.after
 
