@@ -17,8 +17,10 @@ use Rattle.mw_fork.specs.Comparing.{AreEventsOf, AreOne, AreOneAtProbe, AreOneOn
 use Rattle.mw_fork.specs.Comparing.{HoldsAt, compared_all}
 use Rattle.mw_space.specs.declared.space.Space.{Space}
 use Rattle.mw_fork.specs.Faults.{RunStop}
-use Rattle.mw_fork.proofs.ComparingOn.{IsShown, compares_shown, compares_then, comparing_then, wide_compared}
-use Rattle.mw_fork.proofs.GoingOn.{GoesOnAs, goes_then, lines_go_on, memory_goes_on}
+use Rattle.mw_compare.proofs.ComparingOn.{IsShown, compares_shown, compares_then, comparing_then}
+use Rattle.mw_fork.proofs.ComparingOn.{wide_compared}
+use Rattle.mw_compare.proofs.GoingOn.{GoesOnAs, goes_then, memory_goes_on}
+use Rattle.mw_fork.proofs.LinesGoOn.{lines_go_on}
 use Rattle.mw_fork.proofs.LineCompared.{holds_later}
 use Rattle.mw_fork.proofs.LinesCompared.{all_at}
 

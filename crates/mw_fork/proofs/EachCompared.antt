@@ -19,7 +19,8 @@ use Rattle.mw_term.specs.WordList.{WordList, memory_read_words, with_variable}
 use Rattle.mw_term.proofs.Numbered.{numbered_read, numbered_variable, numbered_word}
 use Rattle.mw_symmem.proofs.Lists.{seam}
 use Rattle.mw_fork.specs.Comparing.{IsFrontOf}
-use Rattle.mw_fork.proofs.GoingOn.{front_expression, front_itself, front_read, front_then, front_variable, front_word}
+use Rattle.mw_compare.proofs.GoingOn.{front_itself, front_read, front_then, front_variable, front_word}
+use Rattle.mw_fork.proofs.LinesGoOn.{front_expression}
 
 -- A comparison's list is the beginning of a longer one, each of its terms that is no constant has a word, and the
 -- comparison's term is whether two terms are equal.

@@ -31,7 +31,7 @@ use Rattle.mw_course.specs.Boundaries.{AreWide}
 use Rattle.mw_fork.specs.Comparing.{AreOneOn, AreSidesOn, AreTwoAt, FailsAt, GoesComparing, HoldsAt, IsComparedKind}
 use Rattle.mw_fork.specs.Comparing.{right_of}
 use Rattle.mw_course.specs.Listed.{list_of_space}
-use Rattle.mw_fork.proofs.ComparingOn.{comparing_then}
+use Rattle.mw_compare.proofs.ComparingOn.{comparing_then}
 
 -- ---- the shape of the elements' terms
 

@@ -1,7 +1,7 @@
 -- Lines, compared one after another.
 use Rattle.std.proofs.Common.{◌≡◌, inl, inr, ap, subst, sym, ◌∙◌, ℕ, ◌+◌, ◌<◌, ◌≤◌, List, arith}
 use Rattle.std.proofs.Common.{drop, get_or, length, true}
-use Rattle.std.specs.Prelude.{All, IfSome, Option, Some, slice_get}
+use Rattle.std.specs.Prelude.{All, Some, slice_get}
 use Rattle.std.proofs.lemmas.Bool.{cases_lt}
 use Rattle.std.proofs.lemmas.List.{drop_all}
 use Rattle.std.proofs.lemmas.Option.{get_or_from_slice_get, same_Some, slice_get_within}
@@ -18,13 +18,10 @@ use Rattle.mw_term.specs.Functions.{Function}
 use Rattle.mw_space.specs.declared.space.Space.{Space}
 use Rattle.mw_course.specs.Boundaries.{AreWide}
 use Rattle.mw_fork.specs.Comparing.{GoesComparing, HoldsAt}
-use Rattle.mw_fork.proofs.GoingOn.{GoesOnAs, lines_go_on}
+use Rattle.mw_compare.proofs.GoingOn.{GoesOnAs}
+use Rattle.mw_fork.proofs.LinesGoOn.{lines_go_on}
 use Rattle.mw_fork.proofs.LineCompared.{holds_later}
 use Rattle.mw_course.proofs.Related.{lines_rest, seen_count, seen_line}
-
--- the value that there is
-pub some_at : {X : Type 0} (P : X → Type 0) (o : Option X) (x : X) → o ≡ Some x → IfSome o P → P x
-some_at P o x is holds = subst (λ y. IfSome y P) is holds
 
 -- what is so of each is so of the one at a place
 pub all_at : {X : Type 0} (P : X → Type 0) (xs : List X) (i : ℕ) (x : X) → All P xs → slice_get xs i ≡ Some x → P x

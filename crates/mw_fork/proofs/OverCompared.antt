@@ -26,9 +26,9 @@ use Rattle.mw_rel.specs.TreeSought.IsSought.{at_comparison as sought_at, on_path
 use Rattle.mw_space.specs.declared.space.Space.{Space}
 use Rattle.mw_fork.specs.Faults.{RunStop}
 use Rattle.mw_explore.specs.declared.fault.Fault.TheVariants.{NoMemory, Over}
-use Rattle.mw_fork.specs.declared.fault.Place.{Place}
+use Rattle.mw_compare.specs.declared.fault.Place.{Place}
 use Rattle.mw_fork.specs.Comparing.{FailsFirst, HaveCompared, IsComparedOver, IsFrontOf, StopsComparing, word_on}
-use Rattle.mw_fork.specs.Comparing.IsComparedOver.{at_comparison, in_list}
+use Rattle.mw_compare.specs.Comparing.IsComparedOver.{at_comparison, in_list}
 use Rattle.mw_fork.specs.Failing.{ComparisonStops, ComparisonsAreWithin}
 use Rattle.mw_course.specs.Listed.{list_of_space}
 use Rattle.mw_fork.proofs.EachCompared.{IsComparedIn}

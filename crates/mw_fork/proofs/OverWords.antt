@@ -38,7 +38,7 @@ use Rattle.mw_course.specs.Listed.{AsksFor}
 use Rattle.mw_course.specs.OnWay.{IsOnWay}
 use Rattle.mw_course.specs.Starts.{Ground, HaveStarts}
 use Rattle.mw_fork.specs.Stops.{StopsBy}
-use Rattle.mw_fork.proofs.GoingOn.{front_itself}
+use Rattle.mw_compare.proofs.GoingOn.{front_itself}
 use Rattle.mw_fork.proofs.WordPaths.{word_same}
 
 -- ---- numbers of words

@@ -7,7 +7,6 @@ use Rattle.std.proofs.lemmas.Bool.Decides.{nat_tests}
 use Rattle.mw_term.specs.declared.side.Side.TheVariants.{Board}
 use Rattle.mw_board.specs.declared.parts.BoardParts.{BoardParts}
 use Rattle.mw_cycle.specs.SteadySeries.{Series}
-use Rattle.mw_cycle.specs.SteadySeries.{Inputs}
 use Rattle.mw_cycle.specs.SteadySeries.{kind_of, series_of_kind, width_of}
 use Rattle.mw_cycle.proofs.Named.{no_kind, no_variable}
 use Rattle.mw_term.specs.declared.kinds.WordKind.{WordKind}

@@ -7,7 +7,7 @@ use Rattle.mw_rel.specs.Begin.{Begin}
 use Rattle.mw_rel.specs.Case.{IsCase}
 use Rattle.mw_rel.specs.OverBudget.{AreNodesOver}
 use Rattle.mw_rel.specs.Views.{job_of}
-use Rattle.mw_fork.specs.declared.fault.Place.{Place}
+use Rattle.mw_compare.specs.declared.fault.Place.{Place}
 use Rattle.mw_fork.specs.declared.starts.Ended.{Ended}
 use Rattle.mw_fork.specs.declared.starts.Starts.{Starts}
 use Rattle.mw_fork.specs.declared.traced.Traced.{Traced}

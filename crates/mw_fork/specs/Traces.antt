@@ -2,19 +2,15 @@
 use Rattle.std.specs.Prelude.{◌≡◌, ℕ, List}
 use Rattle.mw_term.specs.declared.decided.Decided.{Decided}
 use Rattle.mw_path.specs.declared.paths.Paths.{Paths}
-use Rattle.mw_path.specs.Paths.{AreMade, ArePaths, StayOnPath, path_in}
+use Rattle.mw_path.specs.Paths.{AreMade, StayOnPath, path_in}
 use Rattle.mw_rel.specs.Job.{Job}
-use Rattle.mw_space.specs.declared.space.Space.{Space}
+pub use Rattle.mw_compare.specs.SpacePaths.{HavePaths}
 use Rattle.mw_course.specs.Courses as courses
 use Rattle.mw_course.specs.Courses.{IsOtherCourse}
 use Rattle.mw_fork.specs.declared.traced.Traced.{Traced}
 use Rattle.mw_fork.specs.declared.traced.Waiting.{Waiting}
 
 -- ---- courses
-
--- the paths of a course are diagrams, and its bits are right for what was written in a space
-abbrev pub HavePaths : Space → Paths → Type 0
-HavePaths space paths = ArePaths space.terms paths.dds paths.shared paths.places paths.path
 
 -- one that is on its way, and waits for no bit
 pub record IsGoing (job : Job) (number : ℕ) (bits : List Decided) (traced : Traced) : Type 0 where

@@ -7,11 +7,11 @@ ghost use Rattle.mw_fork.specs.StartCases.{IsFoundAt, IsOverAt, IsWaitingAt};
 ghost use Rattle.mw_fork.specs.Traces.{IsOther};
 
 use crate::decide::decide;
-use crate::fault::{Place, RunStop};
 use crate::found::differing;
 use crate::starts::{Ended, Starts};
 use crate::traced::{Traced, Waiting};
 use mw_base::NoMemory;
+use mw_compare::{Place, RunStop};
 use mw_dd::Dd;
 use mw_explore::{CaseTree, Choice};
 use mw_rel::Begin;

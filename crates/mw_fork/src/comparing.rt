@@ -1,44 +1,34 @@
 // The comparison of both sides of a case, on terms.
-ghost use Rattle.std.specs.Prelude.{◌≡◌, ◌↔◌, ◌<◌, ◌≤◌, ◌+◌, ◌^◌, ◌∷◌, [], Bool, ℕ, List, All, IfErr, IfOk, IfSome};
+ghost use Rattle.std.specs.Prelude.{◌≡◌, ◌<◌, ◌≤◌, ◌+◌, ◌^◌, Bool, ℕ, List, All, IfErr, IfOk, IfSome};
 ghost use Rattle.std.specs.Prelude.{None, OnOk, Some, length, slice_get, take, true};
 ghost use Rattle.mw_macro.specs.Counts.{reads};
 ghost use Rattle.mw_term.specs.declared.decided.Decided.{Decided};
-ghost use Rattle.mw_rel.specs.ComparisonWords.{Sides, Subject, are_alike, with_comparison, with_events};
-ghost use Rattle.mw_rel.specs.ComparisonWords.{with_line};
-ghost use Rattle.mw_rel.specs.ComparisonWords.{with_lines, with_memory};
+ghost use Rattle.mw_rel.specs.ComparisonWords.{Sides, are_alike, with_line, with_lines};
 ghost use Rattle.mw_rel.specs.Lines as rel_line;
 ghost use Rattle.mw_rel.specs.Lines.{reads_of};
 ghost use Rattle.mw_rel.specs.Rules.{IsLineOf};
 ghost use Rattle.mw_rel.specs.Seen.{line_of, lines_of};
 ghost use Rattle.mw_rel.specs.Views.{job_of};
+ghost use Rattle.mw_rel.specs.CaseWords.{terms_with};
 ghost use Rattle.mw_term.specs.Assigned.{Given, given_by};
 ghost use Rattle.mw_term.specs.Cofactors.{Agree};
-ghost use Rattle.mw_term.specs.declared.event.SymEvent.TheVariants.{Out};
 ghost use Rattle.mw_term.specs.declared.kinds.WordKind.TheVariants.{Probe};
-ghost use Rattle.mw_term.specs.WordList.{ended, memory_read_words, term_of};
-ghost use Rattle.mw_symmem.specs.Memory.{IsOfWidth, IsRead, writes_of};
-ghost use Rattle.mw_symmem.specs.Workspace.{IsWorkspace};
-ghost use Rattle.mw_course.specs.Boundaries.{AreWide, IsSpace};
-ghost use Rattle.mw_fork.specs.Comparing.{AreApart, AreEventsOf, AreOne, AreOneAtProbe, AreOneOn, ArePutOut};
-ghost use Rattle.mw_fork.specs.Comparing.{AreSidesOn, AreTwoAt, AreTwoInMemory};
-ghost use Rattle.mw_fork.specs.Comparing.{AreWritesOn, Compares, FailsAt, GoesComparing, HoldsAt};
-ghost use Rattle.mw_fork.specs.Comparing.{compared_all};
-ghost use Rattle.mw_rel.specs.CaseWords.{terms_with};
-ghost use Rattle.mw_symboard.specs.Parts.{AreParts};
-ghost use Rattle.mw_symmem.specs.Words.{HaveOwnKinds};
 ghost use Rattle.mw_term.specs.Table.{Table};
-ghost use Rattle.mw_course.specs.Listed.{list_of_space};
-ghost use Rattle.mw_fork.specs.Failing.{ComparisonStops, ComparisonsAreWithin, IsFound, NoneDiffersOf};
+ghost use Rattle.mw_term.specs.WordList.{term_of};
+ghost use Rattle.mw_symmem.specs.Words.{HaveOwnKinds};
+ghost use Rattle.mw_symboard.specs.Parts.{AreParts};
+ghost use Rattle.mw_course.specs.Boundaries.{AreWide, IsSpace};
 ghost use Rattle.mw_course.specs.OnWay.{HasMetCase};
+ghost use Rattle.mw_fork.specs.Comparing.{AreApart, AreEventsOf, AreOne, AreSidesOn, Compares, FailsAt, GoesComparing};
+ghost use Rattle.mw_fork.specs.Comparing.{HoldsAt, compared_all};
+ghost use Rattle.mw_fork.specs.Failing.{ComparisonStops, ComparisonsAreWithin, IsFound, NoneDiffersOf};
 ghost use Rattle.mw_fork.specs.Traces.{HasGone, HavePaths, StaysAs};
-ghost use Rattle.mw_path.specs.Paths.{path_in};
-ghost use Rattle.mw_path.specs.Paths.{AreMade, StayOnPath};
+ghost use Rattle.mw_path.specs.Paths.{AreMade, StayOnPath, path_in};
 
-use crate::decide::stop_of;
-use crate::fault::RunStop;
 use crate::traced::Traced;
 use mw_base::NoMemory;
 use mw_blast::over_have_numbers;
+use mw_compare::{RunStop, alike, apart, compare_events, compare_memory};
 use mw_course::{Run, boundary_at};
 use mw_macro::words_are_numbered;
 use mw_path::Paths;
@@ -47,144 +37,8 @@ use mw_space::Space;
 use mw_symboard::{SymBoard, words_of_cycles_are_numbered};
 use mw_symmach::{SymMach, expr_term};
 use mw_symmem::{Side, SymEvent};
-use mw_term::{Assignment, Op, ShortcutBook, Term, WordKind};
+use mw_term::{Assignment, ShortcutBook, Term};
 use std::alloc::Global;
-
-/// The word that an event puts out, if it is none that was taken.
-fn out_of(event: SymEvent) -> Option<Term>
-    ensures { (term : ℕ) → (result ≡ Some term) ↔ (event ≡ Out term) }
-{
-    match event {
-        SymEvent::Out(term) => Some(term),
-        SymEvent::Taken(_) => None,
-    }
-}
-
-/// Whether both sides have equally many events, of the same kinds.
-fn alike(board: &[SymEvent], machine: &[SymEvent]) -> bool
-    ensures { result ≡ are_alike board.now machine.now }
-{
-    if board.len() != machine.len() {
-        return false;
-    }
-    for number in 0..board.len() {
-        if out_of(board[number]).is_some() != out_of(machine[number]).is_some() {
-            return false;
-        }
-    }
-    true
-}
-
-/// The first assignment on the path under which two terms have two values, if there is one.
-fn apart(
-    alloc: Global,
-    space: &mut Space,
-    paths: &mut Paths,
-    a: Term,
-    b: Term,
-    nodes: u32,
-    book: &ShortcutBook,
-) -> Result<Option<Assignment>, RunStop>
-    requires wide { (width : ℕ) × IsOfWidth space.old.terms width a × IsOfWidth space.old.terms width b }
-    requires workspace { IsWorkspace space.old.terms space.old.words space.old.memory }
-    requires paths { HavePaths space.old paths.old }
-    ensures goes { OnOk result (GoesComparing space.old space.new) }
-    ensures memory { space.new.memory ≡ space.old.memory }
-    ensures probe { OnOk result (term_of space.new.words Probe ≡ term_of space.old.words Probe) }
-    ensures paths { OnOk result (HavePaths space.new paths.new) }
-    ensures path { Agree (path_in paths.new) (path_in paths.old) }
-    ensures stays { OnOk result (StayOnPath paths.old paths.new) }
-    ensures compared { (subject : Subject)
-        → Compares nodes space.old space.new (path_in paths.old) (with_comparison subject a b) result }
-    ensures same { IfOk result (λ o. o ≡ None → AreOneOn space.new.terms (path_in paths.old) a b) }
-    ensures apart { IfOk result (λ o. IfSome o (λ numbers. AreTwoAt space.new.terms (given_by numbers) a b)) }
-{
-    let same = space.words.add(alloc, &mut space.terms, Op::Eq(a, b))?;
-    match paths.failing(alloc, &space.terms, same, nodes, book) {
-        Ok(found) => Ok(found),
-        Err(fault) => Err(stop_of(&space.words, fault)),
-    }
-}
-
-/// Compares the words of two events, if both put one out.
-fn compare_pair(
-    alloc: Global,
-    space: &mut Space,
-    paths: &mut Paths,
-    board: SymEvent,
-    machine: SymEvent,
-    nodes: u32,
-    book: &ShortcutBook,
-) -> Result<Option<Assignment>, RunStop>
-    requires wide { (a b : ℕ) → board ≡ Out a → machine ≡ Out b
-        → (word : ℕ) × IsOfWidth space.old.terms word a × IsOfWidth space.old.terms word b }
-    requires workspace { IsWorkspace space.old.terms space.old.words space.old.memory }
-    requires paths { HavePaths space.old paths.old }
-    ensures goes { OnOk result (GoesComparing space.old space.new) }
-    ensures paths { OnOk result (HavePaths space.new paths.new) }
-    ensures path { Agree (path_in paths.new) (path_in paths.old) }
-    ensures stays { OnOk result (StayOnPath paths.old paths.new) }
-    ensures memory { OnOk result (space.new.memory ≡ space.old.memory) }
-    ensures probe { OnOk result (term_of space.new.words Probe ≡ term_of space.old.words Probe) }
-    ensures compared { (number : ℕ) → Compares nodes space.old space.new (path_in paths.old)
-        (with_events number (board ∷ []) (machine ∷ [])) result }
-    ensures same { IfOk result (λ o. o ≡ None → (a b : ℕ) → board ≡ Out a → machine ≡ Out b
-        → AreOneOn space.new.terms (path_in paths.old) a b) }
-    ensures apart { IfOk result (λ o. IfSome o (λ numbers. (a : ℕ) × (b : ℕ) × (board ≡ Out a) × (machine ≡ Out b)
-        × AreTwoAt space.new.terms (given_by numbers) a b)) }
-{
-    let Some(a) = out_of(board) else {
-        return Ok(None);
-    };
-    let Some(b) = out_of(machine) else {
-        return Ok(None);
-    };
-    apart(alloc, space, paths, a, b, nodes, book)
-}
-
-/// Compares the words that both sides put out, pair by pair.
-fn compare_events(
-    alloc: Global,
-    space: &mut Space,
-    paths: &mut Paths,
-    board: &[SymEvent],
-    machine: &[SymEvent],
-    nodes: u32,
-    book: &ShortcutBook,
-) -> Result<Option<Assignment>, RunStop>
-    requires alike { are_alike board.now machine.now ≡ true }
-    requires wide { (word : ℕ) × AreEventsOf space.old.terms word board.now
-        × AreEventsOf space.old.terms word machine.now }
-    requires workspace { IsWorkspace space.old.terms space.old.words space.old.memory }
-    requires paths { HavePaths space.old paths.old }
-    ensures goes { OnOk result (GoesComparing space.old space.new) }
-    ensures paths { OnOk result (HavePaths space.new paths.new) }
-    ensures path { Agree (path_in paths.new) (path_in paths.old) }
-    ensures stays { OnOk result (StayOnPath paths.old paths.new) }
-    ensures memory { OnOk result (space.new.memory ≡ space.old.memory) }
-    ensures probe { OnOk result (term_of space.new.words Probe ≡ term_of space.old.words Probe) }
-    ensures compared { Compares nodes space.old space.new (path_in paths.old) (with_events 0 board.now machine.now)
-        result }
-    ensures same { IfOk result (λ o. o ≡ None → (number a b : ℕ) → ArePutOut board.now machine.now number a b
-        → AreOneOn space.new.terms (path_in paths.old) a b) }
-    ensures apart { IfOk result (λ o. IfSome o (λ numbers. (number : ℕ) × (a : ℕ) × (b : ℕ)
-        × ArePutOut board.now machine.now number a b × AreTwoAt space.new.terms (given_by numbers) a b)) }
-{
-    for number in 0..board.len() {
-        if let Some(found) = compare_pair(
-            alloc,
-            space,
-            paths,
-            board[number],
-            machine[number],
-            nodes,
-            book,
-        )? {
-            return Ok(Some(found));
-        }
-    }
-    Ok(None)
-}
 
 /// Compares the left element of a line with its right side.
 fn compare_line(
@@ -277,54 +131,6 @@ fn compare_lines(
     Ok(None)
 }
 
-/// What a side's memory holds at the probe.
-fn read_at(alloc: Global, space: &mut Space, side: Side, probe: Term) -> Result<Term, NoMemory>
-    requires few { length space.old.memory.reads < 2 ^ 32 }
-    requires workspace { IsWorkspace space.old.terms space.old.words space.old.memory }
-    requires probe { IsOfWidth space.old.terms space.old.memory.address probe }
-    ensures goes { OnOk result (GoesComparing space.old space.new) }
-    ensures more { OnOk result (length space.new.memory.reads ≡ length space.old.memory.reads + 1) }
-    ensures means { IfOk result (IsRead space.new.terms space.new.memory side probe) }
-    ensures wide { IfOk result (IsOfWidth space.new.terms space.old.memory.word) }
-    ensures listed { IfOk result (λ term. ended term (list_of_space space.new)
-        ≡ memory_read_words space.old.memory.word probe (writes_of space.old.memory side) (list_of_space space.old)) }
-{
-    space
-        .memory
-        .read(alloc, side, probe, &mut space.terms, &mut space.words)
-}
-
-/// Compares the memories of both sides at an address that may be any.
-fn compare_memory(
-    alloc: Global,
-    job: &Job,
-    space: &mut Space,
-    paths: &mut Paths,
-    nodes: u32,
-    book: &ShortcutBook,
-) -> Result<Option<Assignment>, RunStop>
-    requires space { IsSpace (job_of job.now) space.old.terms space.old.words space.old.memory }
-    requires fresh { term_of space.old.words Probe ≡ None }
-    requires few { length space.old.memory.reads + 2 < 2 ^ 32 }
-    requires paths { HavePaths space.old paths.old }
-    ensures goes { OnOk result (GoesComparing space.old space.new) }
-    ensures paths { OnOk result (HavePaths space.new paths.new) }
-    ensures path { Agree (path_in paths.new) (path_in paths.old) }
-    ensures stays { OnOk result (StayOnPath paths.old paths.new) }
-    ensures compared { (sides : Sides) → AreWritesOn space.old sides → Compares nodes space.old space.new
-        (path_in paths.old) (with_memory (job_of job.now).relation.shape sides) result }
-    ensures same { IfOk result (λ o. o ≡ None → AreOneAtProbe space.new (path_in paths.old)) }
-    ensures apart { IfOk result (λ o. IfSome o (λ numbers. AreTwoInMemory space.new (given_by numbers))) }
-{
-    let address = job.board.parts().address;
-    let probe = space
-        .words
-        .fresh(alloc, &mut space.terms, WordKind::Probe, address)?;
-    let board = read_at(alloc, space, Side::Board, probe)?;
-    let machine = read_at(alloc, space, Side::Machine, probe)?;
-    apart(alloc, space, paths, board, machine, nodes, book)
-}
-
 /// The terms of all elements at the end, by number.
 fn elements_at_end(
     alloc: Global,
@@ -393,7 +199,8 @@ fn compare_all(
         let _ = space.words.count();
         return Ok(Some(found));
     }
-    let compared = compare_memory(alloc, job, space, paths, nodes, book);
+    let address = job.board.parts().address;
+    let compared = compare_memory(alloc, space, paths, address, nodes, book);
     // A call for the proof: no two variables have one kind.
     let _ = space.words.count();
     compared

@@ -1,13 +1,10 @@
 // How the bits of a case are decided.
-ghost use Rattle.std.specs.Prelude.{◌≡◌, ◌&&◌, ◌++◌, ◌∷◌, [], ℕ, List, Bool, IfErr, IfOk, IfSome, OnOk, length, true};
-ghost use Rattle.std.specs.Option.{is_some, unwrap_or};
-ghost use Rattle.mw_blast.specs.declared.fault.BlastFault.TheVariants as faults;
+ghost use Rattle.std.specs.Prelude.{◌≡◌, ◌&&◌, ◌++◌, ◌∷◌, [], ℕ, List, Bool, IfErr, IfOk, IfSome, OnOk, true};
+ghost use Rattle.std.specs.Option.{is_some};
 ghost use Rattle.mw_dd.specs.Nodes.{IsDd, function_of};
 ghost use Rattle.mw_explore.specs.KeptBits.{IsChosen};
-ghost use Rattle.mw_explore.specs.declared.fault.Fault.TheVariants as stops;
 ghost use Rattle.mw_cycle.specs.Decided.{decided};
 ghost use Rattle.mw_term.specs.declared.decided.Decided.{Decided};
-ghost use Rattle.mw_term.specs.WordList.{word_number};
 ghost use Rattle.mw_symmem.specs.Memory.{IsOfWidth};
 ghost use Rattle.mw_rel.specs.Case.{IsCase};
 ghost use Rattle.mw_rel.specs.Job.{IsJob, Job};
@@ -20,8 +17,8 @@ ghost use Rattle.mw_path.specs.Paths.{HaveGrown};
 ghost use Rattle.mw_fork.specs.Stops.{StopsBy};
 ghost use Rattle.mw_fork.specs.Within.{AreDecidedWithin};
 
-use crate::fault::{Place, RunStop};
-use mw_blast::{BlastFault, over_have_numbers};
+use mw_blast::over_have_numbers;
+use mw_compare::{RunStop, stop_of};
 use mw_dd::Dd;
 use mw_explore::Choice;
 use mw_macro::words_are_numbered;
@@ -29,34 +26,8 @@ use mw_path::{Feasible, Paths};
 use mw_rel::words_of_cases_are_numbered;
 use mw_space::Space;
 use mw_symboard::words_of_cycles_are_numbered;
-use mw_symmem::Words;
 use mw_term::{DecidedKind, ShortcutBook, Term};
 use std::alloc::Global;
-
-/// The number of an operation's word. That of a constant, which is no word, is the last one before it.
-fn operation_number(words: &Words, term: Term) -> u64
-    ensures { result ≡ unwrap_or (word_number words.now term) (length words.now) }
-{
-    match words.word_of(term) {
-        Some(number) => number,
-        None => words.count(),
-    }
-}
-
-/// Why a course stops, by the fault of a term.
-pub(crate) fn stop_of(words: &Words, fault: BlastFault) -> RunStop
-    ensures over { (term j : ℕ) → fault ≡ faults.Over term j
-        → result ≡ stops.Over (record { word = unwrap_or (word_number words.now term) (length words.now); bit = j }) }
-    ensures none { fault ≡ faults.NoMemory → result ≡ stops.NoMemory }
-{
-    match fault {
-        BlastFault::Over(term, bit) => RunStop::Over(Place {
-            word: operation_number(words, term),
-            bit,
-        }),
-        BlastFault::NoMemory => RunStop::NoMemory,
-    }
-}
 
 /// The path on which a bit is 1, where both values are feasible.
 fn other_path(feasible: Feasible, one: Dd) -> Option<Dd>

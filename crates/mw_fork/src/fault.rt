@@ -27,15 +27,3 @@ pub enum Over {
 
 /// Why no further case is found.
 pub type ForkFault = Fault<Over>;
-
-/// Where an operation of a course is over the budget.
-#[derive(Clone, Copy, Debug, PartialEq, Eq, Drop)]
-pub(crate) struct Place {
-    /// The number of its word.
-    pub word: u64,
-    /// The bit of that word.
-    pub bit: u8,
-}
-
-/// Why a course doesn't come to its end.
-pub(crate) type RunStop = Fault<Place>;

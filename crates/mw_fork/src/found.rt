@@ -8,9 +8,9 @@ ghost use Rattle.mw_fork.specs.Failing.{ComparisonStops, IsFoundOf};
 ghost use Rattle.mw_fork.specs.declared.traced.Waiting as waits;
 
 use crate::comparing::first_failing;
-use crate::fault::RunStop;
 use crate::traced::Traced;
 use mw_base::NoMemory;
+use mw_compare::RunStop;
 use mw_course::begin_of;
 use mw_rel::{Begin, Job};
 use mw_space::Space;

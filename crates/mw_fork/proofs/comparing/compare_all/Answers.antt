@@ -1,17 +1,20 @@
-use Rattle.std.proofs.Common.{ap, arith, length, refl, subst, ◌∙◌}
+use Rattle.std.proofs.Common.{ap, arith, length, refl, subst, sym, ◌∙◌}
 use Rattle.std.specs.Prelude.{Err, Ok, Some}
 use Rattle.std.proofs.lemmas.Option.{IfSome_then}
 use Rattle.std.proofs.lemmas.Result.{IfOk-weaker, err_from_is_err_and, on_ok_weaker}
 use Rattle.mw_rel.specs.ComparisonWords.{with_events, with_lines, with_memory}
 use Rattle.mw_rel.specs.Seen.{lines_of}
 use Rattle.mw_rel.specs.Views.{job_of}
+use Rattle.mw_rel.proofs.Standing.{board_address}
 use Rattle.mw_symmem.specs.Memory.{Memory}
 use Rattle.mw_fork.specs.Comparing.{AreApart, Compares}
 use Rattle.mw_path.specs.Paths.{path_in}
+use Rattle.mw_course.proofs.Boundaries.{machine_word}
 use Rattle.mw_fork.proofs.ComparedAll.{events_shown, events_then, lines_shown, one_all}
-use Rattle.mw_fork.proofs.ComparingOn.{compares_then, comparing_then, sides_compared}
+use Rattle.mw_compare.proofs.ComparingOn.{compares_then, comparing_then}
+use Rattle.mw_fork.proofs.ComparingOn.{sides_compared}
 use Rattle.mw_path.proofs.Grown.{stays_then}
-use Rattle.mw_fork.proofs.LinesCompared.{some_at}
+use Rattle.mw_compare.proofs.Options.{some_at}
 use Rattle.mw_fork.proofs.comparing.compare_all.Goals as goal
 
 pub returns-in_err-found-clause-compared : goal.returns-in_err-found-clause-compared
@@ -105,6 +108,11 @@ compare_memory-compared-requires-clause-few g c =
     let same = ap (λ (m : Memory). length m.reads) c.in_ok-found.ensures.memory in
     omega (arith, same, c.requires.few, c.in_ok-found-2.ensures.more)
 
+pub compare_memory-compared-requires-clause-address : goal.compare_memory-compared-requires-clause-address
+compare_memory-compared-requires-clause-address g c =
+    c.in_ok-found-2.ensures.goes.goes.reads.address ∙ c.in_ok-found.ensures.goes.goes.reads.address
+    ∙ c.requires.space.address ∙ sym (ap (λ b. b.address) c.parts.ensures.exact)
+
 pub returns-clause-goes : goal.returns-clause-goes
 returns-clause-goes g c =
     let old = c.args.space.now in
@@ -131,7 +139,9 @@ returns-clause-own g c =
 
 pub returns-clause-compared : goal.returns-clause-compared
 returns-clause-compared g c = λ sides on.
-    let s = (job_of c.args.job.now).relation.shape in
+    let job = job_of c.args.job.now in
+    let valid = c.args.job.now.is_job in
+    let s = job.relation.shape in
     let lines = lines_of c.args.lines.now in
     let old = c.args.space.now in
     let first = c.compare_events.new.space in
@@ -154,7 +164,10 @@ returns-clause-compared g c = λ sides on.
     f.goes.goes.later.extends.map f.path (λ so_far same. refl)
     (subst (λ o. Compares nodes first second next (with_lines s sides lines) (Ok o)) c.in_default-2.is
     (f.compared sides here))
-    (c.compare_memory-compared.ensures.compared sides there.writes))
+    (c.compare_memory-compared.ensures.compared s sides
+    (board_address job valid ∙ sym (e.goes.goes.reads.address ∙ c.requires.space.address) ∙ sym f.goes.goes.reads.address)
+    (machine_word job valid ∙ valid.matched.word ∙ sym (e.goes.goes.reads.word ∙ c.requires.space.word)
+    ∙ sym f.goes.goes.reads.word) there.writes))
 
 pub returns-clause-same : goal.returns-clause-same
 returns-clause-same g c =

@@ -11,10 +11,10 @@ use Rattle.mw_space.specs.declared.space.Space.{Space}
 use Rattle.mw_fork.specs.Comparing.{GoesComparing}
 use Rattle.mw_path.specs.Paths.{path_in}
 use Rattle.mw_course.proofs.Boundaries.{machine_word}
-use Rattle.mw_fork.proofs.ComparingOn.{compares_later, comparing_paths, comparing_then}
+use Rattle.mw_compare.proofs.ComparingOn.{compares_later, comparing_paths, comparing_then}
 use Rattle.mw_fork.proofs.LineCompared.{HasMadeRight, base_goes, both_wide, left_at, line_ends, line_fails}
 use Rattle.mw_fork.proofs.LineCompared.{line_holds, line_ready, shape_is}
-use Rattle.mw_fork.proofs.MemoryCompared.{not_base}
+use Rattle.mw_compare.proofs.MemoryCompared.{not_base}
 use Rattle.mw_course.proofs.Runs.{probe_kept}
 use Rattle.mw_fork.proofs.comparing.compare_line.Given.{Over}
 use Rattle.mw_fork.proofs.comparing.compare_line.Goals as goal

@@ -10,11 +10,12 @@ use Rattle.mw_term.specs.Assigned.{given_by}
 use Rattle.mw_fork.specs.Comparing.{Compares, FailsAt}
 use Rattle.mw_path.specs.Paths.{path_in}
 use Rattle.mw_course.proofs.Boundaries.{space_later}
-use Rattle.mw_fork.proofs.ComparingOn.{compares_as, compares_shown, compares_then, comparing_then, sides_compared}
-use Rattle.mw_fork.proofs.ComparingOn.{wide_compared}
-use Rattle.mw_fork.proofs.EventsCompared.{comparing_itself}
+use Rattle.mw_compare.proofs.ComparingOn.{compares_as, compares_shown, compares_then, comparing_then}
+use Rattle.mw_fork.proofs.ComparingOn.{sides_compared, wide_compared}
+use Rattle.mw_compare.proofs.EventsCompared.{comparing_itself}
+use Rattle.mw_compare.proofs.Options.{some_at}
 use Rattle.mw_path.proofs.Grown.{stays_itself, stays_then}
-use Rattle.mw_fork.proofs.LinesCompared.{hold_more, inside_kept, lines_behind, lines_done, lines_next, some_at}
+use Rattle.mw_fork.proofs.LinesCompared.{hold_more, inside_kept, lines_behind, lines_done, lines_next}
 use Rattle.mw_course.proofs.Related.{reads_rest, seen_line}
 use Rattle.mw_fork.proofs.comparing.compare_lines.Goals as goal
 

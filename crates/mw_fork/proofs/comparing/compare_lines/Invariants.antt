@@ -13,7 +13,7 @@ use Rattle.mw_fork.specs.Comparing.{AreSidesOn, GoesComparing, HoldsAt}
 use Rattle.mw_fork.specs.Traces.{HavePaths}
 use Rattle.mw_path.specs.Paths.{path_in}
 use Rattle.mw_path.specs.Paths.{StayOnPath}
-use Rattle.mw_fork.proofs.CameTo.{CameTo}
+use Rattle.mw_compare.proofs.CameTo.{CameTo}
 use Rattle.mw_fork.proofs.comparing.compare_lines.Given as goal
 
 abbrev pub invariant-loop-line : goal.invariant-loop-line

@@ -1,6 +1,6 @@
 use Rattle.mw_rel.specs.Views.{job_of}
 use Rattle.mw_fork.proofs.FoundStarts.{found_differs, found_least}
-use Rattle.mw_fork.proofs.LinesCompared.{some_at}
+use Rattle.mw_compare.proofs.Options.{some_at}
 use Rattle.mw_fork.proofs.found.sought.Goals as goal
 
 pub returns-in-Ok-None-clause-found : goal.returns-in-Ok-None-clause-found

@@ -21,11 +21,11 @@ use Rattle.mw_term.specs.MemoryRead.{Held, held}
 use Rattle.mw_term.specs.Values.{IsTermOf, Keeps, term_value}
 use Rattle.mw_term.specs.WordList.{Ended, WordList, ended, memory_read_words, variable, with_variable}
 use Rattle.mw_space.specs.declared.space.Space.{Space}
-use Rattle.mw_fork.specs.Faults.{RunStop}
-use Rattle.mw_fork.specs.Comparing.{AreOneAtProbe, AreOneOn, AreTwoAt, AreTwoInMemory, AreWritesOn, GoesComparing}
-use Rattle.mw_fork.specs.Comparing.{IsComparedKind}
-use Rattle.mw_course.specs.Listed.{list_of_space}
-use Rattle.mw_fork.proofs.ComparingOn.{comparing_then}
+use Rattle.mw_compare.specs.Faults.{RunStop}
+use Rattle.mw_compare.specs.Comparing.{AreOneAtProbe, AreOneOn, AreTwoAt, AreTwoInMemory, AreWritesOn, GoesComparing}
+use Rattle.mw_compare.specs.Comparing.{IsComparedKind}
+use Rattle.mw_space.specs.Spaces.{list_of_space}
+use Rattle.mw_compare.proofs.ComparingOn.{comparing_then}
 
 -- a variable was made that stands for any address
 pub record HasProbe (old new : Space) (width probe : ℕ) : Type 0 where

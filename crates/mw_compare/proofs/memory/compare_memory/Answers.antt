@@ -1,25 +1,22 @@
-use Rattle.std.proofs.Common.{ap, refl, sym, ◌∙◌}
+use Rattle.std.proofs.Common.{refl, sym, ◌∙◌}
 use Rattle.std.proofs.lemmas.Result.{on_ok_weaker}
 use Rattle.mw_rel.specs.ComparisonWords.{memory, with_memory}
-use Rattle.mw_rel.specs.Views.{job_of}
-use Rattle.mw_rel.proofs.Standing.{board_address}
 use Rattle.mw_term.specs.declared.side.Side.TheVariants as sides
 use Rattle.mw_symmem.proofs.Later.{width_later}
 use Rattle.mw_space.specs.declared.space.Space.{Space}
-use Rattle.mw_fork.specs.Comparing.{GoesComparing}
+use Rattle.mw_compare.specs.Comparing.{GoesComparing}
 use Rattle.mw_path.specs.Paths.{path_in}
-use Rattle.mw_course.proofs.Boundaries.{machine_word}
-use Rattle.mw_fork.proofs.ComparingOn.{compares_later, comparing_paths, comparing_then}
-use Rattle.mw_fork.proofs.MemoryCompared.{HasProbe, HasRead, memory_ends, one_at_probe, probe_made, two_in_memory}
-use Rattle.mw_fork.proofs.comparing.compare_memory.Given.{Over}
-use Rattle.mw_fork.proofs.comparing.compare_memory.Goals as goal
+use Rattle.mw_compare.proofs.ComparingOn.{compares_later, comparing_paths, comparing_then}
+use Rattle.mw_compare.proofs.MemoryCompared.{HasProbe, HasRead, memory_ends, one_at_probe, probe_made, two_in_memory}
+use Rattle.mw_compare.proofs.memory.compare_memory.Given.{Over}
+use Rattle.mw_compare.proofs.memory.compare_memory.Goals as goal
 
 pub read_at-requires-clause-workspace : goal.read_at-requires-clause-workspace
 read_at-requires-clause-workspace g c =
     let e = c.in_ok-probe.ensures in
     (probe_made c.args.space.now
     (record { terms = c.fresh.new.terms; words = c.fresh.new.self; memory = c.args.space.now.memory }) _ _
-    c.in_ok-probe.probe refl c.requires.space.workspace e.words e.made e.listed e.of e.extends e.keeps
+    c.in_ok-probe.probe refl c.requires.workspace e.words e.made e.listed e.of e.extends e.keeps
     e.table).goes.goes.workspace
 
 pub read_at-requires-clause-probe : goal.read_at-requires-clause-probe
@@ -27,10 +24,10 @@ read_at-requires-clause-probe g c =
     let e = c.in_ok-probe.ensures in
     let wide = (probe_made c.args.space.now
     (record { terms = c.fresh.new.terms; words = c.fresh.new.self; memory = c.args.space.now.memory }) _ _
-    c.in_ok-probe.probe refl c.requires.space.workspace e.words e.made e.listed e.of e.extends e.keeps e.table).wide in
+    c.in_ok-probe.probe refl c.requires.workspace e.words e.made e.listed e.of e.extends e.keeps e.table).wide in
     record {
       there = wide.there;
-      width_is = wide.width_is ∙ ap (λ b. b.address) c.parts.ensures.exact ∙ sym c.requires.space.address;
+      width_is = wide.width_is ∙ sym c.requires.address;
     }
 
 pub read_at-requires-2-clause-probe : goal.read_at-requires-2-clause-probe
@@ -38,24 +35,23 @@ read_at-requires-2-clause-probe g c =
     let e = c.in_ok-probe.ensures in
     let has = probe_made c.args.space.now
     (record { terms = c.fresh.new.terms; words = c.fresh.new.self; memory = c.args.space.now.memory }) _ _
-    c.in_ok-probe.probe refl c.requires.space.workspace e.words e.made e.listed e.of e.extends e.keeps e.table in
+    c.in_ok-probe.probe refl c.requires.workspace e.words e.made e.listed e.of e.extends e.keeps e.table in
     let board = c.in_ok-board.ensures.goes.goes in
     let later = width_later _ c.read_at.new.space.terms _ c.in_ok-probe.probe board.later has.wide in
     record {
       there = later.there;
-      width_is = later.width_is ∙ ap (λ b. b.address) c.parts.ensures.exact ∙ sym c.requires.space.address
-          ∙ sym board.reads.address;
+      width_is = later.width_is ∙ sym c.requires.address ∙ sym board.reads.address;
     }
 
 abbrev first_space : (g : Over) (c : goal.After-apart g) → Space
 first_space g c = record { terms = c.fresh.new.terms; words = c.fresh.new.self; memory = c.args.space.now.memory }
 
 probed : (g : Over) (c : goal.After-apart g)
-    → HasProbe c.args.space.now (first_space g c) c.parts.result.now.address c.in_ok-probe.probe
+    → HasProbe c.args.space.now (first_space g c) c.args.address c.in_ok-probe.probe
 probed g c =
     let e = c.in_ok-probe.ensures in
-    probe_made c.args.space.now (first_space g c) c.parts.result.now.address _ c.in_ok-probe.probe refl
-    c.requires.space.workspace e.words e.made e.listed e.of e.extends e.keeps e.table
+    probe_made c.args.space.now (first_space g c) c.args.address _ c.in_ok-probe.probe refl
+    c.requires.workspace e.words e.made e.listed e.of e.extends e.keeps e.table
 
 board_read : (g : Over) (c : goal.After-apart g)
     → HasRead (first_space g c) c.read_at.new.space sides.Board c.in_ok-probe.probe c.in_ok-board.board
@@ -80,7 +76,7 @@ apart-requires-clause-paths g c =
     let e = c.in_ok-probe.ensures in
     let s1 : Space = record { terms = c.fresh.new.terms; words = c.fresh.new.self; memory = c.args.space.now.memory } in
     let has =
-    probe_made c.args.space.now s1 _ _ c.in_ok-probe.probe refl c.requires.space.workspace e.words e.made e.listed
+    probe_made c.args.space.now s1 _ _ c.in_ok-probe.probe refl c.requires.workspace e.words e.made e.listed
     e.of e.extends e.keeps e.table in
     comparing_paths c.read_at.new.space c.read_at-2.new.space c.args.paths.now c.in_ok-machine.ensures.goes
     (comparing_paths s1 c.read_at.new.space c.args.paths.now c.in_ok-board.ensures.goes
@@ -92,29 +88,24 @@ returns-clause-goes g c =
     c.apart.ensures.goes
 
 pub returns-clause-compared : goal.returns-clause-compared
-returns-clause-compared g c = λ sides on.
-    let job = job_of c.args.job.now in
-    let valid = c.args.job.now.is_job in
+returns-clause-compared g c = λ s sides address word on.
     compares_later c.args.nodes c.args.space.now c.read_at-2.new.space c.apart.new.space (path_in c.args.paths.now)
-    (memory c.in_ok-probe.probe) c.in_ok-board.board c.in_ok-machine.machine (with_memory job.relation.shape sides)
-    c.apart.result (to_apart g c).goes.later.extends.map
-    (λ so_far same. memory_ends job.relation.shape c.args.space.now (first_space g c) c.read_at.new.space
-    c.read_at-2.new.space c.parts.result.now.address c.in_ok-probe.probe c.in_ok-board.board c.in_ok-machine.machine
-    sides so_far (board_address job valid ∙ sym (ap (λ b. b.address) c.parts.ensures.exact))
-    (machine_word job valid ∙ valid.matched.word ∙ sym c.requires.space.word) (probed g c) (board_read g c) (machine_read g c)
-    on same)
+    (memory c.in_ok-probe.probe) c.in_ok-board.board c.in_ok-machine.machine (with_memory s sides) c.apart.result
+    (to_apart g c).goes.later.extends.map
+    (λ so_far same. memory_ends s c.args.space.now (first_space g c) c.read_at.new.space c.read_at-2.new.space
+    c.args.address c.in_ok-probe.probe c.in_ok-board.board c.in_ok-machine.machine sides so_far
+    (address ∙ c.requires.address) word (probed g c) (board_read g c) (machine_read g c) on same)
     (c.apart.ensures.compared (memory c.in_ok-probe.probe))
 
 pub returns-clause-same : goal.returns-clause-same
 returns-clause-same g c =
     one_at_probe c.args.space.now (first_space g c) c.read_at.new.space c.read_at-2.new.space c.apart.new.space
     (path_in c.args.paths.now) _ c.in_ok-probe.probe c.in_ok-board.board c.in_ok-machine.machine c.apart.result
-    (ap (λ b. b.address) c.parts.ensures.exact ∙ sym c.requires.space.address) (probed g c)
-    (board_read g c) (machine_read g c)
+    (sym c.requires.address) (probed g c) (board_read g c) (machine_read g c)
     c.apart.ensures.goes c.apart.ensures.same
 
 pub returns-clause-apart : goal.returns-clause-apart
 returns-clause-apart g c =
     two_in_memory c.args.space.now (first_space g c) c.read_at.new.space c.read_at-2.new.space c.apart.new.space
-    c.parts.result.now.address c.in_ok-probe.probe c.in_ok-board.board c.in_ok-machine.machine c.apart.result (probed g c)
+    c.args.address c.in_ok-probe.probe c.in_ok-board.board c.in_ok-machine.machine c.apart.result (probed g c)
     (board_read g c) (machine_read g c) c.apart.ensures.goes c.apart.ensures.apart

@@ -14,8 +14,8 @@ use Rattle.mw_term.specs.declared.event.SymEvent.{SymEvent}
 use Rattle.mw_term.specs.declared.event.SymEvent.TheVariants.{Out, Taken}
 use Rattle.mw_term.specs.Functions.{Function}
 use Rattle.mw_space.specs.declared.space.Space.{Space}
-use Rattle.mw_fork.specs.Comparing.{AreEventsOf, AreOneOn, ArePutOut, GoesComparing, IsComparedKind}
-use Rattle.mw_fork.proofs.GoingOn.{GoesOnAs, events_go_on}
+use Rattle.mw_compare.specs.Comparing.{AreEventsOf, AreOneOn, ArePutOut, GoesComparing, IsComparedKind}
+use Rattle.mw_compare.proofs.GoingOn.{GoesOnAs, events_go_on}
 
 pub alike_count : (xs ys : List SymEvent) → are_alike xs ys ≡ true → length xs ≡ length ys
 alike_count [] [] same = refl
@@ -190,9 +190,6 @@ out_here board machine k x y a b at out = (
       (sym (slice_get_read machine (length machine) k y refl (omega (arith, at.inside, at.count)) at.second)
       ∙ out.by_machine),
 )
-
-pub none_or_some : (o : Option ℕ) (a : ℕ) → o ≡ None → o ≡ Some a → ⊥
-none_or_some o a none some = absurd cc
 
 pub comparing_itself : (space : Space) → IsWorkspace space.terms space.words space.memory → GoesComparing space space
 comparing_itself space workspace = record {

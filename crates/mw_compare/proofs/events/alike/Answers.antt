@@ -1,6 +1,6 @@
 use Rattle.std.proofs.Common.{◌≡◌, ◌∙◌, arith, sym, rules}
-use Rattle.mw_fork.proofs.EventsCompared.{AreAt, alike_next, differ_not, is_out, out_is, unlike_count, unlike_here}
-use Rattle.mw_fork.proofs.comparing.alike.Goals as goal
+use Rattle.mw_compare.proofs.EventsCompared.{AreAt, alike_next, differ_not, is_out, out_is, unlike_count, unlike_here}
+use Rattle.mw_compare.proofs.events.alike.Goals as goal
 
 pub returns-then-board-machine : goal.returns-then-board-machine
 returns-then-board-machine c =

@@ -4,12 +4,12 @@ use Rattle.mw_symmem.specs.Workspace.{IsWorkspace}
 use Rattle.mw_term.specs.declared.kinds.WordKind.TheVariants.{Probe}
 use Rattle.mw_term.specs.Cofactors.{Agree}
 use Rattle.mw_term.specs.WordList.{term_of}
-use Rattle.mw_fork.specs.Comparing.{AreOneOn, ArePutOut, GoesComparing}
-use Rattle.mw_fork.specs.Traces.{HavePaths}
+use Rattle.mw_compare.specs.Comparing.{AreOneOn, ArePutOut, GoesComparing}
+use Rattle.mw_compare.specs.SpacePaths.{HavePaths}
 use Rattle.mw_path.specs.Paths.{path_in}
 use Rattle.mw_path.specs.Paths.{StayOnPath}
-use Rattle.mw_fork.proofs.CameTo.{CameTo}
-use Rattle.mw_fork.proofs.comparing.compare_events.Given as goal
+use Rattle.mw_compare.proofs.CameTo.{CameTo}
+use Rattle.mw_compare.proofs.events.compare_events.Given as goal
 
 abbrev pub invariant-loop-number : goal.invariant-loop-number
 invariant-loop-number g l = record {

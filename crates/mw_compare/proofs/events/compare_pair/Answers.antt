@@ -3,9 +3,10 @@ use Rattle.std.proofs.lemmas.Option.{IfSome_then}
 use Rattle.std.proofs.lemmas.Result.{IfOk-weaker}
 use Rattle.mw_rel.specs.ComparisonWords.{event, with_comparison, with_events}
 use Rattle.mw_path.specs.Paths.{path_in}
-use Rattle.mw_fork.proofs.ComparingOn.{compares_as}
-use Rattle.mw_fork.proofs.EventsCompared.{none_or_some, pair_one, pair_out, pair_skip}
-use Rattle.mw_fork.proofs.comparing.compare_pair.Goals as goal
+use Rattle.mw_compare.proofs.ComparingOn.{compares_as}
+use Rattle.mw_compare.proofs.Options.{none_or_some}
+use Rattle.mw_compare.proofs.EventsCompared.{pair_one, pair_out, pair_skip}
+use Rattle.mw_compare.proofs.events.compare_pair.Goals as goal
 
 pub returns-in_default-clause-compared : goal.returns-in_default-clause-compared
 returns-in_default-clause-compared g c = λ number.

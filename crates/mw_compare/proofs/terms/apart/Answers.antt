@@ -6,10 +6,10 @@ use Rattle.mw_term.specs.declared.kinds.WordKind.TheVariants.{Probe}
 use Rattle.mw_term.specs.WordList.{term_of}
 use Rattle.mw_path.specs.Paths.{path_in}
 use Rattle.mw_space.specs.declared.space.Space.{Space}
-use Rattle.mw_fork.proofs.Apart.{compared_found, compared_goes, compared_over, compared_so, compared_wide, one_on}
-use Rattle.mw_fork.proofs.Apart.{two_at_first}
+use Rattle.mw_compare.proofs.TermsCompared.{compared_found, compared_goes, compared_over, compared_so, compared_wide, one_on}
+use Rattle.mw_compare.proofs.TermsCompared.{two_at_first}
 use Rattle.mw_path.proofs.Sharing.{shared_with_more}
-use Rattle.mw_fork.proofs.comparing.apart.Goals as goal
+use Rattle.mw_compare.proofs.terms.apart.Goals as goal
 
 pub add-requires : goal.add-requires
 add-requires g c =

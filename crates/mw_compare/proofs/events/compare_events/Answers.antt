@@ -2,14 +2,14 @@ use Rattle.std.proofs.Common.{[], ◌∷◌, ◌+◌, ◌∙◌, arith, drop, re
 use Rattle.std.specs.Prelude.{Err, None, Ok, Some}
 use Rattle.std.proofs.lemmas.Result.{err_from_is_err_and}
 use Rattle.mw_rel.specs.ComparisonWords.{with_events}
-use Rattle.mw_fork.specs.Comparing.{Compares}
+use Rattle.mw_compare.specs.Comparing.{Compares}
 use Rattle.mw_path.specs.Paths.{path_in}
-use Rattle.mw_fork.proofs.ComparingOn.{compares_as, compares_shown, compares_then, comparing_then}
-use Rattle.mw_fork.proofs.EventsCompared.{AreAt, alike_count, alike_rest, comparing_itself, events_behind, events_done}
-use Rattle.mw_fork.proofs.EventsCompared.{events_next, events_wide, one_more, out_here, out_inside, put_out}
+use Rattle.mw_compare.proofs.ComparingOn.{compares_as, compares_shown, compares_then, comparing_then}
+use Rattle.mw_compare.proofs.EventsCompared.{AreAt, alike_count, alike_rest, comparing_itself, events_behind, events_done}
+use Rattle.mw_compare.proofs.EventsCompared.{events_next, events_wide, one_more, out_here, out_inside, put_out}
 use Rattle.mw_path.proofs.Grown.{stays_itself, stays_then}
-use Rattle.mw_fork.proofs.LinesCompared.{some_at}
-use Rattle.mw_fork.proofs.comparing.compare_events.Goals as goal
+use Rattle.mw_compare.proofs.Options.{some_at}
+use Rattle.mw_compare.proofs.events.compare_events.Goals as goal
 
 pub loop-number-init : goal.loop-number-init
 loop-number-init g c = record {

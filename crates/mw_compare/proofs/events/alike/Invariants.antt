@@ -1,6 +1,6 @@
 use Rattle.std.proofs.Common.{◌≡◌, drop, length}
 use Rattle.mw_rel.specs.ComparisonWords.{are_alike}
-use Rattle.mw_fork.proofs.comparing.alike.Given as goal
+use Rattle.mw_compare.proofs.events.alike.Given as goal
 
 abbrev pub invariant-loop-number : goal.invariant-loop-number
 invariant-loop-number l = record {

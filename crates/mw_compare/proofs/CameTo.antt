@@ -4,8 +4,8 @@ use Rattle.mw_rel.specs.ComparisonWords.{Compared}
 use Rattle.mw_term.specs.Assigned.{Numbers}
 use Rattle.mw_term.specs.Functions.{Function}
 use Rattle.mw_space.specs.declared.space.Space.{Space}
-use Rattle.mw_fork.specs.Faults.{RunStop}
-use Rattle.mw_fork.specs.Comparing.{Compares}
+use Rattle.mw_compare.specs.Faults.{RunStop}
+use Rattle.mw_compare.specs.Comparing.{Compares}
 
 -- none showed a difference up to those that are left: what is said of these, from this space on, is so of all
 abbrev pub CameTo : (nodes : ℕ) → (old now : Space) → (path other : Function) → (all left : Compared → Compared)

@@ -1,5 +1,5 @@
-use Rattle.mw_fork.proofs.MemoryCompared.{read_goes}
-use Rattle.mw_fork.proofs.comparing.read_at.Goals as goal
+use Rattle.mw_compare.proofs.MemoryCompared.{read_goes}
+use Rattle.mw_compare.proofs.memory.read_at.Goals as goal
 
 pub returns-clause-goes : goal.returns-clause-goes
 returns-clause-goes c =
