@@ -20,7 +20,7 @@ use Rattle.mw_symboard.proofs.Environments.{own_found}
 use Rattle.mw_space.specs.Entries.{HasEntries, but_waits, value_or_zero}
 use Rattle.mw_space.proofs.Placing.{entry_of, outside_of}
 
-value_below : (t : Table) (given : Given) (o : Option ℕ) (width : ℕ) → IsTable t
+pub value_below : (t : Table) (given : Given) (o : Option ℕ) (width : ℕ) → IsTable t
     → ((term : ℕ) → o ≡ Some term → IsOfWidth t width term) → value_or_zero t given o < 2 ^ width
 value_below t given None width table wide = pow_pos width
 value_below t given (Some term) width table wide = value_within t given width term table (wide term refl)

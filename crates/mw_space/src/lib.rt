@@ -4,5 +4,5 @@
 mod outside;
 mod space;
 
-pub use outside::environment_of;
+pub use outside::{environment_of, take};
 pub use space::Space;

@@ -8,6 +8,8 @@ pub mod ElementLines
 pub mod ElementTerms
 pub mod ElementValues
 pub mod ElementWords
+pub mod GivenEnvironments
+pub mod GivenStarts
 pub mod Growing
 pub mod KeptLines
 pub mod NewBegun
@@ -16,9 +18,10 @@ pub mod OldBegun
 pub mod OldSegment
 pub mod OneSide
 pub mod StartElements
+pub mod StartStates
 pub mod StatesOf
 pub mod SteadyTwins
 pub mod TwinCases
-pub mod TwinStarts
+pub mod TwinStartsThere
 pub mod Unwaiting
 pub mod VariableNumbers

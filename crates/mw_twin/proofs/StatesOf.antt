@@ -60,7 +60,7 @@ first_values board values (suc n) few within each =
 
 -- ---- and where it stands
 
-stands_same : (s : BoardState) (at sp : ℕ) (memory : List ℕ) (e : Element)
+pub stands_same : (s : BoardState) (at sp : ℕ) (memory : List ℕ) (e : Element)
     → value_of (standing s at sp memory) e ≡ value_of s e
 stands_same s at sp memory (Register n) = refl
 stands_same s at sp memory Q = refl
@@ -71,7 +71,7 @@ stands_same s at sp memory Pc = refl
 stands_same s at sp memory R = refl
 stands_same s at sp memory (StackWord n) = refl
 
-standing_fits : (board : BoardParts) (s : BoardState) (at sp : ℕ) (memory : List ℕ) → Fits board s → at < 2 ^ 12
+pub standing_fits : (board : BoardParts) (s : BoardState) (at sp : ℕ) (memory : List ℕ) → Fits board s → at < 2 ^ 12
     → sp ≤ depth_of board → IsMemoryOf board memory → Fits board (standing s at sp memory)
 standing_fits board s at sp memory fits address pointer image = record {
   at = address;

@@ -1,3 +1,4 @@
+pub mod Assigned
 pub mod Comes
 pub mod Courses
 pub mod ElementTerms

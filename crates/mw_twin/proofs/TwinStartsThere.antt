@@ -40,7 +40,7 @@ use Rattle.mw_twin.proofs.StatesOf.{IsMemoryOf, StateWith, state_with}
 use Rattle.mw_twin.proofs.Unwaiting.{but_waits_is, line_is, never_waiting_is}
 
 -- what is so of both programs is so of each
-on_both : (P : Side → Type 0) → P Old → P New → (side : Side) → P side
+pub on_both : (P : Side → Type 0) → P Old → P New → (side : Side) → P side
 on_both P old_is new_is Old = old_is
 on_both P old_is new_is New = new_is
 
@@ -51,7 +51,7 @@ AreUnwaiting twins = (side : Side) → (start_on side twins).env.wait ≡ []
 -- ---- memories
 
 -- an image of the ground's memory is a memory of the board
-memory_of_image : (board : BoardParts) (block : Block) (g : Ground) (image : List ℕ) → IsGround board block g
+pub memory_of_image : (board : BoardParts) (block : Block) (g : Ground) (image : List ℕ) → IsGround board block g
     → IsImage g.memory image → IsMemoryOf board image
 memory_of_image board block g image ground has = record {
   size = has.size ∙ ap (λ n. 2 ^ n) ground.space.address;
@@ -129,7 +129,7 @@ module _ (revision : Revision) (block : Block) (g : Ground) (given : Given) (twi
 
   -- A twin start is that of an assignment under which its elements have the values of their terms, its memory fits the
   -- base reads, and its environments have the values of the variables.
-  stands_for : StandsForTwins revision block g given twins
+  pub stands_for : StandsForTwins revision block g given twins
   stands_for = record {
     starts = starts;
     unwaiting = ready;
