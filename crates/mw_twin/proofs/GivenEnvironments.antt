@@ -1,5 +1,5 @@
 -- The environments that an assignment gives both programs' boards: the new one has the old one's first line and inputs.
-use Rattle.std.proofs.Common.{◌≡◌, ℕ, zero, suc, ◌+◌, ◌-◌, ◌<◌, ◌^◌, List, [], ◌∷◌, length, refl, ap, sym, subst, ◌∙◌}
+use Rattle.std.proofs.Common.{◌≡◌, ℕ, zero, suc, ◌-◌, ◌<◌, ◌^◌, List, [], ◌∷◌, length, refl, ap, sym, subst, ◌∙◌}
 use Rattle.std.proofs.Common.{arith}
 use Rattle.std.specs.Prelude.{◌==◌, Bool, true, false, if◌then◌else◌, None, slice_index}
 use Rattle.std.proofs.lemmas.Bool.Decides.{nat_tests}
@@ -8,13 +8,12 @@ use Rattle.mw_board.specs.declared.parts.BoardParts.{BoardParts}
 use Rattle.mw_cycle.specs.Environment.{Environment, IsEnvironment, values_of}
 use Rattle.mw_cycle.specs.declared.series.Series.TheVariants as all
 use Rattle.mw_cycle.specs.SteadyEnvironment.{IsEnvironment as IsSteadyEnvironment, values_of as steady_values_of}
-use Rattle.mw_cycle.specs.SteadySeries.{Series, Inputs, Line, Noise, among_all, kind_of, width_of}
+use Rattle.mw_cycle.specs.SteadySeries.{Series, Inputs, Line, Noise, kind_of, width_of}
 use Rattle.mw_cycle.specs.Thinned.{never_waiting}
 use Rattle.mw_cycle.specs.Trimmed.{EndsWell, IsTrimmed}
 use Rattle.mw_cycle.proofs.Lists.{bit_at, bits_below}
 use Rattle.mw_space.specs.Entries.{HasEntries, HasTaken, but_waits, entry, value_or_zero}
 use Rattle.mw_space.proofs.Environments.{environment_of, listed, value_below}
-use Rattle.mw_symboard.specs.Laws.{IsEnvironmentOf}
 use Rattle.mw_symboard.specs.Variables.{HaveVariables}
 use Rattle.mw_symboard.proofs.Environments.{own_found}
 use Rattle.mw_symmem.specs.Words.{HaveOwnKinds, IsVariable}

@@ -8,16 +8,14 @@ use Rattle.mw_cycle.specs.SteadySeries.{kind_of}
 use Rattle.mw_revise.specs.declared.keep.Block.{Block}
 use Rattle.mw_revise.specs.declared.keep.KeepLine.{KeepLine}
 use Rattle.mw_revise.specs.declared.keep.KeepLine.TheVariants.{Equal, Fixed}
-use Rattle.mw_revise.specs.declared.programs.Side.{Side}
 use Rattle.mw_revise.specs.declared.programs.Side.TheVariants.{Old, New}
 use Rattle.mw_revise.specs.Kept.{IsBlock}
-use Rattle.mw_revise.specs.Revision.{IsBlockOf, IsRevision, Revision}
+use Rattle.mw_revise.specs.Revision.{IsBlockOf, Revision}
 use Rattle.mw_revise.specs.TwinBudgets.{IsTwinStartAt}
-use Rattle.mw_revise.specs.TwinStart.{TwinStart, start_on}
+use Rattle.mw_revise.specs.TwinStart.{start_on}
 use Rattle.mw_revise.specs.TwinStartWords.{line_about}
-use Rattle.mw_sim.specs.Start.{Start}
 use Rattle.mw_space.specs.declared.space.Space.{Space}
-use Rattle.mw_space.specs.Entries.{HasEntries, but_waits, value_or_zero}
+use Rattle.mw_space.specs.Entries.{but_waits, value_or_zero}
 use Rattle.mw_space.specs.Spaces.{IsSpaceOf, list_of_space}
 use Rattle.mw_space.proofs.Environments.{listed}
 use Rattle.mw_symboard.proofs.Environments.{own_found}

@@ -1,5 +1,5 @@
 -- The states of both programs' boards that an assignment gives.
-use Rattle.std.proofs.Common.{◌≡◌, ℕ, ◌<◌, ◌≤◌, ◌^◌, List, refl, sym, subst, ◌∙◌}
+use Rattle.std.proofs.Common.{◌≡◌, ℕ, ◌<◌, ◌≤◌, ◌^◌, List, ap, refl, sym, subst, ◌∙◌}
 use Rattle.std.specs.Prelude.{IfSome, Option}
 use Rattle.mw_board.specs.declared.parts.BoardParts.{BoardParts}
 use Rattle.mw_board.specs.Depth.{depth_of}
@@ -17,14 +17,18 @@ pub value_fits : (board : BoardParts) (n v : ℕ) → n < element_count board �
 value_fits board n v there below =
     subst (λ (o : Option ℕ). IfSome o (λ width. v < 2 ^ width)) (sym (width_is board n there)) below
 
--- a state whose elements have some values has them still where it stands
-pub standing_with : (board : BoardParts) (values : ℕ → ℕ) (at sp : ℕ) (memory : List ℕ) (s : BoardState) → Fits board s
-    → ((n : ℕ) → n < element_count board → element board s n ≡ values n) → at < 2 ^ 12 → sp ≤ depth_of board
-    → IsMemoryOf board memory → IsStateWith board values at sp memory (standing s at sp memory)
-standing_with board values at sp memory s fits set address pointer image = record {
-  fits = standing_fits board s at sp memory fits address pointer image;
-  at_is = refl;
-  sp_is = refl;
-  memory_is = refl;
-  elements = λ n below. stands_same s at sp memory (element_of board n) ∙ set n below;
-}
+-- a state with some values of its elements has them still where it stands, with a memory
+pub standing_with : (board : BoardParts) (values : ℕ → ℕ) (at sp : ℕ) (shown memory : List ℕ) (old new : BoardState)
+    → new ≡ standing old at sp shown → shown ≡ memory → Fits board old
+    → ((n : ℕ) → n < element_count board → element board old n ≡ values n) → at < 2 ^ 12 → sp ≤ depth_of board
+    → IsMemoryOf board memory → IsStateWith board values at sp memory new
+standing_with board values at sp shown memory old new is same fits set address pointer image =
+    subst (IsStateWith board values at sp memory)
+    (sym (is ∙ ap (λ (xs : List ℕ). standing old at sp xs) same))
+    (record {
+      fits = standing_fits board old at sp memory fits address pointer image;
+      at_is = refl;
+      sp_is = refl;
+      memory_is = refl;
+      elements = λ n below. stands_same old at sp memory (element_of board n) ∙ set n below;
+    })

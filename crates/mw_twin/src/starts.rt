@@ -19,7 +19,7 @@ ghost use Rattle.mw_term.specs.declared.kinds.WordKind.TheVariants.{BesideLine};
 ghost use Rattle.mw_term.specs.declared.side.Side.TheVariants.{Board as OldBoard, Machine as NewBoard};
 ghost use Rattle.mw_term.specs.Table.{IsTable};
 ghost use Rattle.mw_term.specs.WordList.{term_of};
-ghost use Rattle.mw_twin.specs.Assigned.{HasLists, IsStateWith, IsTwinAssigned, beside_kind, twins_of, values_under};
+ghost use Rattle.mw_twin.specs.Assigned.{HasLists, IsTwinAssigned, beside_kind, twins_of, values_under};
 ghost use Rattle.mw_twin.specs.Grounds.{StandsForTwins};
 ghost use Rattle.mw_twin.specs.Origins.{AreNamedOnce, IsGround, ground_in};
 
@@ -65,6 +65,26 @@ fn set_elements(
     Ok(())
 }
 
+/// A state of a board whose elements have the values of their terms.
+fn state_of(
+    alloc: Global,
+    board: &Board,
+    terms: &[Term],
+    space: &Space,
+    given: &Assignment,
+) -> Result<State, NoMemory>
+    requires table { IsTable space.now.terms }
+    requires count { length terms.now ≡ element_count board.now }
+    requires wide { AreElements board.now space.now.terms terms.now }
+    ensures fits { IfOk result (Fits board.now) }
+    ensures set { IfOk result (λ state. (n : ℕ) → n < element_count board.now → element board.now state n
+        ≡ values_under space.now.terms (given_by given.now) terms.now n) }
+{
+    let mut state = State::new(alloc, board)?;
+    set_elements(alloc, board, terms, space, given, &mut state)?;
+    Ok(state)
+}
+
 /// Puts a board at a control address, with a stack pointer and a memory. All else stays as it was.
 fn stand_at(state: &mut State, at: u16, sp: u8, memory: &[u32])
     requires pointer { sp ≤ length state.old.seq.stack }
@@ -74,34 +94,6 @@ fn stand_at(state: &mut State, at: u16, sp: u8, memory: &[u32])
     state.at = at;
     state.seq.sp = sp;
     state.memory.copy_from_slice(memory);
-}
-
-/// The state of a board whose elements have the values of their terms, with a memory, at a control address and with so
-/// many words on the stack.
-fn state_of(
-    alloc: Global,
-    board: &Board,
-    terms: &[Term],
-    space: &Space,
-    given: &Assignment,
-    at: u16,
-    sp: u8,
-    memory: &[u32],
-) -> Result<State, NoMemory>
-    requires table { IsTable space.now.terms }
-    requires count { length terms.now ≡ element_count board.now }
-    requires wide { AreElements board.now space.now.terms terms.now }
-    requires at { at < 2 ^ 12 }
-    requires pointer { sp ≤ depth_of board.now }
-    requires size { length memory.now ≡ 2 ^ board.now.address }
-    requires words { (i : ℕ) → slice_index memory.now i < 2 ^ board.now.width }
-    ensures { IfOk result (IsStateWith board.now (values_under space.now.terms (given_by given.now) terms.now) at sp
-        memory.now) }
-{
-    let mut state = State::new(alloc, board)?;
-    set_elements(alloc, board, terms, space, given, &mut state)?;
-    stand_at(&mut state, at, sp, memory);
-    Ok(state)
 }
 
 /// The environment of the new program's board beside that of the old one's, whose first line it has.
@@ -156,8 +148,10 @@ pub fn starts_of(
     let memory = space.memory.image_of(alloc, &space.terms, given)?;
     let old_env = environment_of(alloc, Side::Board, space, given)?;
     let new_env = environment_beside(alloc, &old_env, space, given)?;
-    let old_state = state_of(alloc, board, before, space, given, block.before, block.sp, &memory)?;
-    let new_state = state_of(alloc, board, after, space, given, block.after, block.sp, &memory)?;
+    let mut old_state = state_of(alloc, board, before, space, given)?;
+    stand_at(&mut old_state, block.before, block.sp, &memory);
+    let mut new_state = state_of(alloc, board, after, space, given)?;
+    stand_at(&mut new_state, block.after, block.sp, &memory);
     Ok(TwinStarts {
         before: Start {
             state: old_state,

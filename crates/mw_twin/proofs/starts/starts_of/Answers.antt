@@ -1,12 +1,13 @@
-use Rattle.std.proofs.Common.{ℕ, List, arith, subst, sym}
+use Rattle.std.proofs.Common.{arith, subst, sym}
 use Rattle.mw_board.specs.declared.parts.BoardParts.{BoardParts}
 use Rattle.mw_revise.specs.declared.programs.Side.TheVariants.{Old, New}
 use Rattle.mw_term.specs.Assigned.{given_by}
 use Rattle.mw_twin.specs.declared.starts.TwinStarts.{TwinStarts}
-use Rattle.mw_twin.specs.Assigned.{IsStateWith}
 use Rattle.mw_twin.specs.Origins.{ground_in}
 use Rattle.mw_twin.proofs.GivenStarts.{AreStarts, given_assigned, given_stand}
 use Rattle.mw_twin.proofs.StartElements.{value_on}
+use Rattle.mw_twin.proofs.StartStates.{standing_with}
+use Rattle.mw_twin.proofs.TwinStartsThere.{memory_of_image}
 use Rattle.mw_twin.proofs.starts.starts_of.Goals as goal
 
 pub environment_of-requires-clause-variables : goal.environment_of-requires-clause-variables
@@ -33,52 +34,30 @@ state_of-requires-clause-wide c = c.requires.ground.wide Old
 pub state_of-requires-2-clause-wide : goal.state_of-requires-2-clause-wide
 state_of-requires-2-clause-wide c = c.requires.ground.wide New
 
-pub returns-clause-stands : goal.returns-clause-stands
-returns-clause-stands c = λ revision same is of once.
-    (let space = c.args.space.now in
-    let given = given_by c.args.given.now in
-    let g = ground_in space c.args.before.now c.args.after.now in
-    let starts : TwinStarts = record {
-      before = record { state = c.in_ok-old_state.old_state; env = c.in_ok-old_env.old_env };
-      after = record { state = c.in_ok-new_state.new_state; env = c.in_ok-new_env.new_env };
-    } in
-    let are : AreStarts c.args.board.now c.args.block.now g given c.in_ok-memory.memory.items starts = record {
-      is = c.requires.block;
-      ground = c.requires.ground;
-      old_state = subst (λ (xs : List ℕ). IsStateWith c.args.board.now (value_on Old g given) c.args.block.now.before
-          c.args.block.now.sp xs c.in_ok-old_state.old_state) c.deref.ensures.value c.in_ok-old_state.ensures;
-      new_state = subst (λ (xs : List ℕ). IsStateWith c.args.board.now (value_on New g given) c.args.block.now.after
-          c.args.block.now.sp xs c.in_ok-new_state.new_state) c.deref-2.ensures.value c.in_ok-new_state.ensures;
-      fit = c.in_ok-memory.ensures.fit;
-      environments = record {
-        old_entries = c.in_ok-old_env.ensures.entries;
-        new_lists = c.in_ok-new_env.ensures.lists;
-        old_ready = c.in_ok-old_env.ensures.wait;
-        new_ready = c.in_ok-new_env.ensures.wait;
-        old_trimmed = c.in_ok-old_env.ensures.trimmed;
-        new_trimmed = c.in_ok-new_env.ensures.trimmed;
-      };
-    } in
-    given_stand revision c.args.block.now g given c.in_ok-memory.memory.items starts of once
-    (subst (λ (board : BoardParts). AreStarts board c.args.block.now g given c.in_ok-memory.memory.items starts)
-    (sym same) are))
-
-pub returns-clause-assigned : goal.returns-clause-assigned
-returns-clause-assigned c =
+pub returns : goal.returns
+returns c =
+    let board = c.args.board.now in
+    let block = c.args.block.now in
     let space = c.args.space.now in
     let given = given_by c.args.given.now in
     let g = ground_in space c.args.before.now c.args.after.now in
+    let memory = c.in_ok-memory.memory.items in
+    let image = memory_of_image board block g memory c.requires.ground c.in_ok-memory.ensures.image in
+    let old_state = c.stand_at.new.state in
+    let new_state = c.stand_at-2.new.state in
     let starts : TwinStarts = record {
-      before = record { state = c.in_ok-old_state.old_state; env = c.in_ok-old_env.old_env };
-      after = record { state = c.in_ok-new_state.new_state; env = c.in_ok-new_env.new_env };
+      before = record { state = old_state; env = c.in_ok-old_env.old_env };
+      after = record { state = new_state; env = c.in_ok-new_env.new_env };
     } in
-    let are : AreStarts c.args.board.now c.args.block.now g given c.in_ok-memory.memory.items starts = record {
+    let are : AreStarts board block g given memory starts = record {
       is = c.requires.block;
       ground = c.requires.ground;
-      old_state = subst (λ (xs : List ℕ). IsStateWith c.args.board.now (value_on Old g given) c.args.block.now.before
-          c.args.block.now.sp xs c.in_ok-old_state.old_state) c.deref.ensures.value c.in_ok-old_state.ensures;
-      new_state = subst (λ (xs : List ℕ). IsStateWith c.args.board.now (value_on New g given) c.args.block.now.after
-          c.args.block.now.sp xs c.in_ok-new_state.new_state) c.deref-2.ensures.value c.in_ok-new_state.ensures;
+      old_state = standing_with board (value_on Old g given) block.before block.sp c.deref.result.now memory
+          c.in_ok-old_state.old_state old_state c.stand_at.ensures.exact c.deref.ensures.value
+          c.in_ok-old_state.ensures.fits c.in_ok-old_state.ensures.set c.requires.block.before c.requires.block.sp image;
+      new_state = standing_with board (value_on New g given) block.after block.sp c.deref-2.result.now memory
+          c.in_ok-new_state.new_state new_state c.stand_at-2.ensures.exact c.deref-2.ensures.value
+          c.in_ok-new_state.ensures.fits c.in_ok-new_state.ensures.set c.requires.block.after c.requires.block.sp image;
       fit = c.in_ok-memory.ensures.fit;
       environments = record {
         old_entries = c.in_ok-old_env.ensures.entries;
@@ -88,6 +67,10 @@ returns-clause-assigned c =
         old_trimmed = c.in_ok-old_env.ensures.trimmed;
         new_trimmed = c.in_ok-new_env.ensures.trimmed;
       };
-    } in
-    given_assigned c.args.board.now c.args.block.now space c.args.before.now c.args.after.now given
-    c.in_ok-memory.memory.items starts are c.in_ok-memory.ensures.words
+    } in record {
+      stands = λ revision same is of once.
+          given_stand revision block g given memory starts of once
+          (subst (λ (b : BoardParts). AreStarts b block g given memory starts) (sym same) are);
+      assigned = given_assigned board block space c.args.before.now c.args.after.now given memory starts are
+          c.in_ok-memory.ensures.words;
+    }
