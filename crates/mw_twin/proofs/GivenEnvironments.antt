@@ -36,28 +36,30 @@ variable_value t words given kind = value_or_zero t given (term_of words kind)
 
 -- ---- the first line of another
 
--- the line is 1 bit, in the list of which it is the first
-pub line_fits : (env : Environment) (series : Series) (n : ℕ) → kinds.BesideLine 0 ≡ kind_of Machine series n
-    → slice_index (values_of env all.Line) 0 < 2 ^ width_of 32 series
-line_fits env Inputs n is = absurd cc
-line_fits env Line n is = bits_below env.line 0
-line_fits env Noise n is = absurd cc
+-- a line is 1 bit
+pub line_fits : (env : Environment) (line at : ℕ) → line ≡ slice_index (values_of env all.Line) at → (series : Series)
+    (n : ℕ) → kinds.BesideLine 0 ≡ kind_of Machine series n → line < 2 ^ width_of 32 series
+line_fits env line at is Inputs n same = absurd cc
+line_fits env line at is Line n same = subst (λ v. v < 2) (sym is) (bits_below env.line at)
+line_fits env line at is Noise n same = absurd cc
 
 first_apart : (n : ℕ) → (0 == suc n) ≡ false
 first_apart n = grind (arith, nat_tests)
 
 -- an environment that takes the first line of another has it, and else the values of its variables
-pub lists_beside : (t : Table) (words : List Word) (given : Given) (old new : Environment) (line : ℕ)
-    → HasEntries Machine t words given old → HasTaken Machine old new (kinds.BesideLine 0) line
-    → line ≡ variable_value t words given (kinds.Line 0) → HasLists (variable_value t words given) beside_kind new
-lists_beside t words given old new line entries took is Inputs n =
+pub lists_beside : (t : Table) (words : List Word) (given : Given) (before old new : Environment) (line : ℕ)
+    → HasEntries Board t words given before → HasEntries Machine t words given old
+    → HasTaken Machine old new (kinds.BesideLine 0) line → line ≡ slice_index (values_of before all.Line) 0
+    → HasLists (variable_value t words given) beside_kind new
+lists_beside t words given before old new line first entries took is Inputs n =
     took (kinds.Input n) refl ∙ entries (kinds.Input n) refl
-lists_beside t words given old new line entries took is Line zero = took (kinds.BesideLine 0) refl ∙ is
-lists_beside t words given old new line entries took is Line (suc n) =
+lists_beside t words given before old new line first entries took is Line zero =
+    took (kinds.BesideLine 0) refl ∙ is ∙ first (kinds.Line 0) refl
+lists_beside t words given before old new line first entries took is Line (suc n) =
     took (kinds.BesideLine (suc n)) refl
     ∙ ap (λ (b : Bool). if b then line else entry Machine old (kinds.BesideLine (suc n))) (first_apart n)
     ∙ entries (kinds.BesideLine (suc n)) refl
-lists_beside t words given old new line entries took is Noise n =
+lists_beside t words given before old new line first entries took is Noise n =
     took (kinds.BesideNoise n) refl ∙ entries (kinds.BesideNoise n) refl
 
 -- ---- they are ones of the assignment
