@@ -39,6 +39,10 @@ fn put(env: &mut Env, series: Series, number: u32, value: u32) -> Result<(), NoM
 }
 
 /// The environment of the board of a side takes the value of a variable, where that is one of its own. A 0 is left out.
+///
+/// # Errors
+///
+/// Memory ran out.
 pub fn take(side: Side, env: &mut Env, kind: WordKind, value: u32) -> Result<(), NoMemory>
     requires fresh { entry side env.old kind ≡ 0 }
     requires width { (series : SteadySeries) (n : ℕ) → kind ≡ kind_of side series n

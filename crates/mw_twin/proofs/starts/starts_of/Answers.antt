@@ -1,4 +1,4 @@
-use Rattle.std.proofs.Common.{arith, subst, sym}
+use Rattle.std.proofs.Common.{arith, rules, subst, sym}
 use Rattle.mw_board.specs.declared.parts.BoardParts.{BoardParts}
 use Rattle.mw_revise.specs.declared.programs.Side.TheVariants.{Old, New}
 use Rattle.mw_term.specs.Assigned.{given_by}
@@ -32,7 +32,10 @@ pub state_of-requires-clause-wide : goal.state_of-requires-clause-wide
 state_of-requires-clause-wide c = c.requires.ground.wide Old
 
 pub state_of-requires-2-clause-wide : goal.state_of-requires-2-clause-wide
-state_of-requires-2-clause-wide c = c.requires.ground.wide New
+state_of-requires-2-clause-wide c =
+    let old_wide = c.requires.ground.wide Old in
+    let new_wide = c.requires.ground.wide New in
+    search rules
 
 pub returns : goal.returns
 returns c =
@@ -57,7 +60,7 @@ returns c =
           c.in_ok-old_state.ensures.fits c.in_ok-old_state.ensures.set c.requires.block.before c.requires.block.sp image;
       new_state = standing_with board (value_on New g given) block.after block.sp c.deref-2.result.now memory
           c.in_ok-new_state.new_state new_state c.stand_at-2.ensures.exact c.deref-2.ensures.value
-          c.in_ok-new_state.ensures.fits c.in_ok-new_state.ensures.set c.requires.block.after c.requires.block.sp image;
+          c.in_ok-new_state.ensures.fits (search rules) c.requires.block.after c.requires.block.sp image;
       fit = c.in_ok-memory.ensures.fit;
       environments = record {
         old_entries = c.in_ok-old_env.ensures.entries;
