@@ -39,7 +39,7 @@ use Rattle.mw_twin.specs.Scenes.{IsScene, Scene}
 use Rattle.mw_twin.specs.TwinPaths.{IsOnWay}
 use Rattle.mw_twin.proofs.ElementGround.{have_variables}
 use Rattle.mw_twin.proofs.NewBegun.{parts_are}
-use Rattle.mw_twin.proofs.TwinStarts.{twin_starts_are_there}
+use Rattle.mw_twin.proofs.TwinStartsThere.{twin_starts_are_there}
 
 -- among variables of elements alone there is no probe
 no_probe : (space : Space) → HaveKinds IsElementKind space.words → term_of space.words Probe ≡ None
