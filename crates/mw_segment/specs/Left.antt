@@ -25,13 +25,15 @@ left_of_segment program bound space o bits =
     behind_cycle program.addresses come.asked come
     (segment_words program.board program.store program.addresses (bound - (o.place.cycle + 1)))
 
--- The words of a segment along some bits and further ones are those that are left.
+-- A board is along the words of a segment: behind the bits so far, whatever bits are further, its words are those that
+-- the board has left.
 abbrev pub IsAlongSegment : Program → (bound : ℕ) → (whole : List Bool → Segment) → (bits : List Bool) → Space → Symbolic
     → Type 0
 IsAlongSegment program bound whole bits space o =
     (further : List Bool) → whole (bits ++ further) ≡ left_of_segment program bound space o further
 
--- It asks: the words along the bits so far stop at the term of the bit, and with either value it is along the words.
+-- It asks: the words along the bits so far stop at the term of the next one, and with either value the board is along
+-- the words.
 pub record AsksAlong (program : Program) (bound : ℕ) (whole : List Bool → Segment) (bits : List Bool) (space : Space)
     (o : Symbolic) (kind : DecidedKind) (term : ℕ) : Type 0 where
   pub to : Standing
@@ -51,7 +53,7 @@ ComesAlong program bound whole bits space o came.Late =
     (further : List Bool)
     → whole (bits ++ further) ≡ ended_by passes (standing_on space o) further (list_of_space space)
 
--- ---- the law of its beginning
+-- ---- the law of a segment's beginning
 
 -- A board whose next cycle hasn't begun is along the words of its cycles, along no bits.
 abbrev pub SegmentsBegin : Type 0

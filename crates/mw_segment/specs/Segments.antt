@@ -47,7 +47,7 @@ pub record HasLines (t : Table) (words : List Word) (o : Symbolic) : Type 0 wher
   pub begun : (reading : Reading) → o.reading ≡ Some reading → HasFirstLine t words
   pub later : 0 < o.place.cycle → HasFirstLine t words
 
--- a board within a cycle of its segment, with what it works on
+-- a board in its segment, within a cycle or between two, with what it works on
 pub record IsRunning (program : Program) (space : Space) (o : Symbolic) : Type 0 where
   pub space_of : IsSpaceOf program.board space.terms space.words space.memory
   pub symbolic : IsSymbolic program.board program.store space.terms space.words space.memory o
@@ -78,7 +78,7 @@ pub record IsOnSegment (program : Program) (space : Space) (b : Origin) (o : Sym
   pub count : length passed ≡ o.place.cycle
   pub none : All (λ at. is_named program.addresses at ≡ false) passed
 
--- the first segment of a run ends at its boundary in this cycle, or is late
+-- after how many cycles the first segment of a run ends at a boundary; none where it is late
 abbrev pub first_end : Program → (bound : ℕ) → Course → Option ℕ
 first_end program bound x =
     first_boundary program.addresses (λ n. (run_in program.board program.store x n).state.at) bound

@@ -31,9 +31,9 @@ pub enum Came {
         /// A term of one bit, which has the bit's value.
         term: Term,
     },
-    /// It is at a boundary.
+    /// It is at a boundary, between two cycles.
     Reached,
-    /// The bound's number of cycles has passed without one.
+    /// It is at no boundary, and has finished as many cycles as its bound allows.
     Late,
 }
 
@@ -86,6 +86,9 @@ fn turn(
 }
 
 /// Goes on through the cycles of a segment: to the next bit, or to its end. The board waits for no bit.
+///
+/// The bound is how many cycles the whole segment may take, those that are finished included: more than these, and at
+/// most 500. The base reads so far, and one for each cycle of the bound, are fewer than 2^32.
 ///
 /// # Errors
 ///

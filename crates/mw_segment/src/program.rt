@@ -2,14 +2,14 @@
 use mw_board::{Board, Store};
 use std::marker::Model;
 
-/// A program on a board.
+/// A microprogram on a board, and where its segments end.
 #[derive(Drop)]
 pub struct Program<'a> {
     /// The board.
     pub board: &'a Board,
-    /// Its microwords.
+    /// The microwords, from control address 0 on.
     pub store: &'a Store,
-    /// The control addresses of its boundaries.
+    /// The control addresses of the boundaries, in any order.
     pub addresses: &'a [u16],
 }
 

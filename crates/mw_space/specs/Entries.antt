@@ -22,7 +22,7 @@ value_at env None = 0
 abbrev pub entry : Side → Environment → WordKind → ℕ
 entry side env kind = value_at env (series_of_kind side kind)
 
--- whether a kind is that of a variable of such an environment
+-- whether a kind is that of a variable of the environment of the board of a side
 abbrev pub is_outside : Side → WordKind → Bool
 is_outside side kind = is_some (series_of_kind side kind)
 
@@ -30,7 +30,7 @@ is_outside side kind = is_some (series_of_kind side kind)
 abbrev pub but_waits : Environment → SteadyEnvironment
 but_waits env = record { line = env.line; noise = env.noise; inputs = env.inputs }
 
--- the value for this kind is this, and each other as it was
+-- an environment has taken a value: that for this kind is this, and each other is as it was
 abbrev pub HasTaken : Side → (old new : Environment) → WordKind → (value : ℕ) → Type 0
 HasTaken side old new kind value = (other : WordKind) → is_outside side other ≡ true
     → entry side new other ≡ (if same_kind kind other then value else entry side old other)

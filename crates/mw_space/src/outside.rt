@@ -20,7 +20,8 @@ use mw_cycle::{Env, Series};
 use mw_term::{Assignment, Side, Word, WordKind};
 use std::alloc::Global;
 
-/// A value of a list gets a number that isn't 0. It is appended with those before it where it isn't there yet.
+/// The value with this number of a list becomes this one, which isn't 0. A list that ends before it is filled up with
+/// zeros.
 fn put(env: &mut Env, series: Series, number: u32, value: u32) -> Result<(), NoMemory>
     requires some { value ≢ 0 }
     requires width { value < 2 ^ width_of 32 series }
@@ -60,7 +61,7 @@ pub fn take(side: Side, env: &mut Env, kind: WordKind, value: u32) -> Result<(),
     }
 }
 
-/// The environment takes the value of a word, where that is a variable.
+/// The environment of the board of a side takes the value of a word, where that is a variable of its own.
 fn take_word(
     alloc: Global,
     side: Side,
@@ -88,8 +89,8 @@ fn take_word(
     }
 }
 
-/// The environment of the board of a side, with the values that an assignment gives the variables of its lists. It has no
-/// waits, and no list has a 0 at its end.
+/// The environment of the board of a side, with the values that an assignment gives the variables of its lists, and 0
+/// where there is no variable. It has no waits, and no list has a 0 at its end.
 ///
 /// # Errors
 ///

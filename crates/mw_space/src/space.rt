@@ -9,19 +9,20 @@ use mw_symmem::{SymMemory, Words, are_of_at_first, is_memory_at_first};
 use mw_term::Written;
 use std::alloc::Global;
 
-/// What a run works on.
+/// What a run on terms works on. The runs of both sides of a case share one.
 #[derive(Drop)]
 pub struct Space {
     /// The terms that it writes.
     pub terms: Written,
-    /// The words of the case.
+    /// The words of the case: which of these terms are words, and the kinds of those that are variables.
     pub words: Words,
-    /// The memory of both sides.
+    /// The memory of both sides: the base reads of the image with which both begin, and what each side has written.
     pub memory: SymMemory,
 }
 
 impl Space {
-    /// No term and no word, and a memory that wasn't read, over the map of a board.
+    /// No term and no word, over the map of a board, and a memory of the board's widths that was neither read nor
+    /// written.
     ///
     /// # Errors
     ///

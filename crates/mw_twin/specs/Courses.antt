@@ -45,7 +45,7 @@ WaitsIn s course None kind term = IsInOld s course.space course.before course.el
 WaitsIn s course (Some after) kind term = IsInNew s course.space course.before after
     × HasCome (program_on New s.revision) s.block.bound course.space after (Asks kind term)
 
--- it has ended: there were few base reads, and there is no probe
+-- it has ended: there were so few base reads that a comparison may make more, and there is no probe yet
 pub record HasRun (course : Course) : Type 0 where
   pub few : length course.space.memory.reads ≤ 1024
   pub fresh : term_of course.space.words Probe ≡ None
@@ -57,7 +57,7 @@ IsTurned s course Finished = HasRun course
 
 -- ---- which cases it is on, where the old board's elements began with these terms
 
--- it is on its way through the cases that began with its bits
+-- it is on its way through the cases that begin with these bits
 abbrev pub IsOnCourse : Scene → (before : List ℕ) → (bits : List Decided) → (path : Function) → Course
     → Option Symbolic → Type 0
 IsOnCourse s before bits path course None =

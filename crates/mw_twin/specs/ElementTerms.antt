@@ -45,11 +45,11 @@ HasValue t value term = (given : Given) → term_value t given term ≡ value
 abbrev pub HasVariable : List Word → (number term : ℕ) → Type 0
 HasVariable words number term = (place : ℕ) × IsVariable words place term (Element number)
 
--- what a term of an element is, of a number from 0 on
+-- what can be said of the term of an element, by a number: that of the element or that of its variable
 abbrev pub IsTerm : Type 1
 IsTerm = (number : ℕ) → Table → List Word → (term : ℕ) → Type 0
 
--- that of an old element, by the line about it: a fixed one has its value, and any other is its variable
+-- that of an old element, by the line about it: a fixed one has its value, and any other is the variable of this number
 abbrev pub IsOldBy : Option KeepLine → IsTerm
 IsOldBy (Some (Fixed element old_value new_value)) number t words term = HasValue t old_value term
 IsOldBy about number t words term = HasVariable words number term

@@ -19,7 +19,7 @@ abbrev pub new_maker : BoardParts → List KeepLine → (before : List ℕ) → 
 new_maker board lines before number width l =
     new_element_words (line_about lines number) (element_count board + number) width (slice_index before number) l
 
--- behind terms so far, those of elements of some widths, whose numbers are those from one on
+-- behind terms so far, those of elements of some widths, which are numbered from this number on
 abbrev pub with_elements : Maker → (number : ℕ) → (widths : List ℕ) → AllEnded → AllEnded
 with_elements make number widths so_far =
     let others = all_element_words make number widths so_far.list in

@@ -41,7 +41,7 @@ abbrev pub new_words : Revision → Block → (terms : List ℕ) → WordList �
 new_words revision block terms l bits =
     first_words New revision block (twin_words.standing_on New revision block terms (term_of l.words (Line 0))) bits l
 
--- the list of decided bits is what there is, and asks for the next one by this term
+-- the word list of the cases along these bits is what the space has, and stops at the term of the next bit
 abbrev pub AsksFor : Revision → Block → (bits : List Decided) → Space → (term : ℕ) → Type 0
 AsksFor revision block bits space term = (twin_tree revision block).words bits ≡ stopped term (list_of_space space)
 
@@ -101,7 +101,7 @@ pub record Behind : Type 0 where
   pub path : Function
   pub list : WordList
 
--- The old segment has ended so, at a boundary.
+-- The old segment has ended so, at a boundary: on its path with these bits, and with this list.
 pub record IsBehind (revision : Revision) (block : Block) (space : Space) (before after : List ℕ) (b : Behind)
     : Type 0 where
   pub ended : HasEnded (program_on Old revision) block.bound space (origin_on Old block (ground_in space before after))

@@ -59,7 +59,8 @@ abbrev pub terms_on : Side → Ground → List ℕ
 terms_on Old g = g.before
 terms_on New g = g.after
 
--- the term of the first line, which the new program's board has from the old one's
+-- the term of the first line where that is there already: the new program's board has the old one's, and the old one
+-- none
 abbrev pub line_for : Side → Ground → Option ℕ
 line_for Old g = None
 line_for New g = term_of g.words (Line 0)

@@ -28,7 +28,8 @@ pub record IsInOld (s : Scene) (space : Space) (o : Symbolic) (after : List ℕ)
   pub wide : AreElements s.revision.board space.terms after
 
 -- The new program's board is in its segment, on the machine's side of the memory, behind that of the old one, which has
--- terms for its elements and its events. The line of its first cycle was there before.
+-- terms for its elements and its events. The line of its first cycle was there before. There is no probe, and behind
+-- the 501 base reads that an old segment may have made there is at most one a cycle.
 pub record IsInNew (s : Scene) (space : Space) (old o : Symbolic) : Type 0 where
   pub scene : IsScene s
   pub running : IsRunning (program_on New s.revision) space o

@@ -33,16 +33,17 @@ use mw_symmem::Turn;
 use mw_term::Term;
 use std::alloc::Global;
 
-/// A course of a twin case.
+/// A course of a twin case. The old program's board has the board's side of the memory, and the new one's the other
+/// side.
 #[derive(Drop)]
 pub struct Course {
     /// What both boards' runs work on.
     pub space: Space,
     /// The old program's board.
     pub before: SymBoard,
-    /// The terms of the new board's elements at the start, by their numbers.
+    /// The terms of the new board's elements at the block, by their numbers, with which its segment begins.
     pub elements: Vec<Term>,
-    /// The new program's board, once the old segment has ended at a boundary.
+    /// The new program's board, once the old segment has ended at a boundary; none before, and where that is late.
     pub after: Option<SymBoard>,
 }
 
@@ -80,12 +81,13 @@ fn elements(alloc: Global, twins: &Twins) -> Result<Elements, NoMemory>
       new_terms = e.after.items;
     }) }
 {
+    // A function of its own for the proof: it says of `twins` what the call says of its parts.
     let revision = twins.revision;
     let made = elements_at(alloc, &revision.board, twins.block)?;
     Ok(made)
 }
 
-/// Gives the bit that is waited for its value.
+/// Gives its value to the bit for which a board waits: the new one where that is there, and else the old one.
 fn give(before: &mut SymBoard, after: &mut Option<SymBoard>, value: bool)
     requires { MayBeGiven before.old after.old }
     ensures { IsGiven value before.old before.new after.old after.new }
@@ -107,7 +109,8 @@ fn copied(alloc: Global, board: &Option<SymBoard>) -> Result<Option<SymBoard>, N
 }
 
 impl Course {
-    /// One that stands at the block, and has made no cycle: each twin start there takes its path.
+    /// One that stands at the block, and has made no cycle and decided no bit, so that each twin start there is on its
+    /// path.
     ///
     /// # Errors
     ///
@@ -172,7 +175,8 @@ impl Course {
         }
     }
 
-    /// Goes on to the next bit of the case, or to its end.
+    /// Goes on to the next bit of the case, or to its end, which is that of the new segment, at a boundary or late, or
+    /// that of the old one where it is late. The course waits for no bit.
     ///
     /// # Errors
     ///
@@ -189,7 +193,7 @@ impl Course {
         self.turn_new(alloc, twins)
     }
 
-    /// Gives the bit that is waited for its value.
+    /// Gives its value to the bit that the course waits for.
     pub fn decide(&mut self, value: bool)
         requires { MayBeGiven self.old.before self.old.after }
         ensures given { IsGiven value self.old.before self.new.before self.old.after self.new.after }
@@ -199,7 +203,8 @@ impl Course {
         give(&mut self.before, &mut self.after, value);
     }
 
-    /// Another one over the same, for which the bit that is waited for is 1.
+    /// Another one, over a copy of what this one works on, for which the bit that this one waits for is 1. This one
+    /// waits for it still.
     ///
     /// # Errors
     ///

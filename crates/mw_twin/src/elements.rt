@@ -23,7 +23,7 @@ use mw_space::Space;
 use mw_term::{Op, Term, WordKind};
 use std::alloc::Global;
 
-/// A variable for the element of this number.
+/// A variable for an element, with this number.
 fn variable(alloc: Global, number: u32, width: u8, space: &mut Space) -> Result<Term, NoMemory>
     requires width { IsWidth width }
     requires below { HasBelow number space.old }
@@ -254,19 +254,20 @@ fn new_terms(
     Ok(after)
 }
 
-/// The elements of both boards at a block, as terms, and what these are terms of.
+/// The elements of both programs' boards at a block, as terms, and what these are terms of.
 #[derive(Drop)]
 pub struct Elements {
     /// What runs from there work on.
     pub space: Space,
     /// The terms of the old board's elements, by their numbers.
     pub before: Vec<Term>,
-    /// The terms of the new board's elements, by their numbers.
+    /// The terms of the new board's elements, by their numbers. A kept one has the old one's.
     pub after: Vec<Term>,
 }
 
-/// The elements of both boards at a block: a variable for each old one that isn't fixed, by their numbers, and then one
-/// for each new one that is neither kept nor fixed.
+/// The elements of both boards at a block: a variable for each old one that isn't fixed, of the element's number, and
+/// then one for each new one that is neither kept nor fixed, of its number behind those of all old ones. A fixed one is
+/// a constant, and a kept one the old one's term. No cycle is made, and the memory is neither read nor written.
 ///
 /// # Errors
 ///

@@ -6,16 +6,16 @@ ghost use Rattle.mw_twin.specs.Courses.{BitsGoOnCourse, BitsMakeReady};
 ghost use Rattle.mw_twin.specs.Grounds.{HaveTwinStarts};
 ghost use Rattle.mw_twin.specs.Origins.{AreNamedOnce, Ground, IsGround};
 
-/// The law of starts: over what stands for a block of a revision, each assignment is that of a twin start without waits,
-/// and each of these has an assignment.
+/// The law of starts: over what both runs from a block of a revision begin with, each assignment is that of a twin
+/// start without waits, and each of these has an assignment.
 pub fn twin_starts_are_there()
     ensures { (revision : Revision) (block : Block) (g : Ground) → IsRevision revision → IsBlockOf revision block
         → IsBlock revision.board block → AreNamedOnce block.lines → IsGround revision.board block g
         → HaveTwinStarts revision block g }
 {}
 
-/// The law of bits: a course that waits for a bit is ready once it is given; and where the bit was decided by its term, it
-/// is on its way with one bit more, along the path by it.
+/// The law of bits: a course that waits for a bit is ready once that is given. Where the bit was decided by its term,
+/// the course is on its way with one bit more, along the path by it.
 pub fn courses_take_bits()
     ensures ready { BitsMakeReady }
     ensures on { BitsGoOnCourse }

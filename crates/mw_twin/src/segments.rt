@@ -69,13 +69,15 @@ fn go(
         → IsAlongSegment (program_on side twins.now.revision) twins.now.block.bound whole bits space.old board.old
         → ComesAlong (program_on side twins.now.revision) twins.now.block.bound whole bits space.new board.new came) }
 {
+    // A function of its own for the proof: it says of `twins` what the call says of its parts.
     let program = twins.program(side);
     let block = twins.block;
     let came = segment(alloc, &program, block.bound, space, board)?;
     Ok(came)
 }
 
-/// Goes on through the old program's segment: to the next bit, or to its end. The new board's elements have these terms.
+/// Goes on through the old program's segment: to the next bit, or to its end. The new board's elements have these
+/// terms, which stay so; the contract alone speaks of them.
 pub(crate) fn go_old(
     alloc: Global,
     twins: &Twins,
@@ -131,7 +133,8 @@ fn board_beside(
     Ok(board)
 }
 
-/// The new program's board, behind an old segment that has ended at a boundary. It has made no cycle.
+/// The new program's board at the block, behind an old segment that has ended at a boundary, where the old board is
+/// this one. It has made no cycle.
 pub(crate) fn begin_new(
     alloc: Global,
     twins: &Twins,
@@ -154,7 +157,8 @@ pub(crate) fn begin_new(
     Ok(after)
 }
 
-/// Goes on through the new program's segment: to the next bit, or to its end.
+/// Goes on through the new program's segment: to the next bit, or to its end. The old board stands behind its own
+/// segment; the contract alone speaks of it.
 pub(crate) fn go_new(
     alloc: Global,
     twins: &Twins,

@@ -8,16 +8,16 @@ use mw_revise::{Block, Revision, Side};
 use mw_segment::Program;
 use std::marker::Model;
 
-/// Both programs of a revision, and a block at which their runs begin.
+/// Both programs of a revision, and one of its blocks, at which their runs begin.
 #[derive(Drop)]
 pub struct Twins<'a> {
     /// The revision.
     pub revision: &'a Revision,
-    /// The block.
+    /// The block, which is one of the revision's.
     pub block: &'a Block,
-    /// The control addresses of all blocks in the old program.
+    /// The control addresses of all blocks in the old program, in the order of the blocks.
     pub before: &'a [u16],
-    /// Those in the new program.
+    /// The control addresses of all blocks in the new program, in the order of the blocks.
     pub after: &'a [u16],
     pub ghost before_is: { before.now ≡ addresses_of Old revision.now },
     pub ghost after_is: { after.now ≡ addresses_of New revision.now },
@@ -32,7 +32,7 @@ impl<'a> Model for Twins<'a> {
 }
 
 impl<'a> Twins<'a> {
-    /// One of both programs.
+    /// One of both programs, on the board, whose boundaries are all blocks.
     pub fn program(&self, side: Side) -> Program<'a>
         ensures { result ≡ program_on side self.now.revision }
     {
