@@ -3,10 +3,6 @@ use Rattle.std.proofs.Common.{◌≡◌, ℕ, zero, suc, ◌+◌, List, [], ◌�
 use Rattle.std.proofs.Common.{not, ◌||◌, ◌==◌, cond, find}
 use Rattle.std.proofs.Common.{Option, Some, None, Result, Ok, Err, refl, sym, ap, ◌∙◌, subst, ◌⊎◌, inl, inr}
 use Rattle.std.specs.Prelude.{IfOk, IfSome, is_none, nat_lt, length, ok_or, slice_get}
-use Rattle.std.specs.List.{list_any}
-use Rattle.std.specs.Option.{option_or}
-use Rattle.std.proofs.lemmas.Bool.{eq-eqb}
-use Rattle.std.proofs.lemmas.List.Folds.{find-append}
 use Rattle.mw_base.specs.declared.cause.Cause.TheVariants.{BadSyntax, NoStackPointer, TooMany, Twice}
 use Rattle.mw_base.specs.declared.cursor.Dotted.{Dotted}
 use Rattle.mw_base.specs.declared.cursor.Numeral.{Numeral}
@@ -45,47 +41,15 @@ use Rattle.mw_revise.specs.KeepLines.{said_of}
 use Rattle.mw_revise.specs.KeepText.{Known, at_first, finished, keep_of, keep_with, known_after, still_open, with_any}
 use Rattle.mw_revise.specs.KeepText.{with_said, with_tokens}
 use Rattle.mw_revise.specs.Revision.{AreApart}
+use Rattle.mw_revise.proofs.Once.{once_more}
 use Rattle.mw_revise.specs.Sites.{Programs, address_on, both, free_address, is_taken, labels_of, site_of}
 
 -- ---- boundaries with one more behind them
 
--- where no boundary passes, none is found
-none_at : (here : Bool) (block : Block) (found : Option Block) (rest : Bool) → (here || rest) ≡ false
-    → (rest ≡ false → found ≡ None) → cond here (Some block) found ≡ None
-none_at true block found rest taken others = cc
-none_at false block found rest taken others = others taken
-
-none_found : (test : Block → Bool) (blocks : List Block) → list_any test blocks ≡ false → find test blocks ≡ None
-none_found test [] taken = refl
-none_found test (x ∷ others) taken =
-    none_at (test x) x (find test others) (list_any test others) taken (none_found test others)
-
--- what stands among boundaries and one more
-before_or_last : (blocks : List Block) (last : Block) (n : ℕ) (block : Block)
-    → slice_get (blocks ++ last ∷ []) n ≡ Some block → (slice_get blocks n ≡ Some block) ⊎ (block ≡ last)
-before_or_last [] last zero block at = inr (let same : block ≡ last = cc in same)
-before_or_last [] last (suc n) block at = cc
-before_or_last (x ∷ others) last zero block at = inl at
-before_or_last (x ∷ others) last (suc n) block at = before_or_last others last n block at
-
 -- one more is apart from those at whose addresses it isn't
 apart_more : (side : Side) (blocks : List Block) (last : Block) → AreApart side blocks
     → is_taken side blocks (address_on side last) ≡ false → AreApart side (blocks ++ last ∷ [])
-apart_more side blocks last apart free n block at =
-    let at_address : ℕ → Block → Bool = λ address other. address_on side other == address in
-    let parts : (address : ℕ) → find (at_address address) (blocks ++ last ∷ [])
-    ≡ option_or (find (at_address address) blocks) (find (at_address address) (last ∷ [])) =
-    λ address. find-append (at_address address) blocks (last ∷ []) in
-    elim (before_or_last blocks last n block at) [
-      | inl before ↦ parts (address_on side block)
-          ∙ ap (λ found. option_or found (find (at_address (address_on side block)) (last ∷ []))) (apart n block before)
-      | inr same ↦ subst (λ (b : Block). find (at_address (address_on side b)) (blocks ++ last ∷ []) ≡ Some b)
-          (sym same)
-          (parts (address_on side last)
-          ∙ ap (λ found. option_or found (find (at_address (address_on side last)) (last ∷ [])))
-          (none_found (at_address (address_on side last)) blocks free)
-          ∙ ap (λ passes. cond passes (Some last) None) (eq-eqb (address_on side last) (address_on side last) refl))
-    ]
+apart_more side blocks last apart free = once_more (address_on side) blocks last apart free
 
 -- ---- what is known after some lines
 

@@ -1,5 +1,6 @@
 -- The elements of KEEP texts: those of the board, each with a value on both sides.
-use Rattle.std.specs.Prelude.{ℕ, ◌^◌, List, codes, Bool, ◌==◌, not, if◌then◌else◌, Option, None, ok_or, Result, Ok}
+use Rattle.std.specs.Prelude.{◌≡◌, ℕ, ◌^◌, List, codes, find, slice_get, Bool, ◌==◌, not, if◌then◌else◌, Option, Some, None}
+use Rattle.std.specs.Prelude.{ok_or, Result, Ok}
 use Rattle.std.specs.List.{list_any}
 use Rattle.std.specs.Option.{unwrap_or}
 use Rattle.std.specs.Str.{bytes_eq}
@@ -26,6 +27,15 @@ number_of board text element =
 abbrev pub element_in : KeepLine → ℕ
 element_in (Equal element) = element
 element_in (Fixed element old_value new_value) = element
+
+-- the line of a block about an element
+abbrev pub line_about : List KeepLine → (number : ℕ) → Option KeepLine
+line_about lines number = find (λ (line : KeepLine). element_in line == number) lines
+
+-- each element has one line about it at most
+unfoldable pub AreNamedOnce : List KeepLine → Type 0
+AreNamedOnce lines = (n : ℕ) (line : KeepLine) → slice_get lines n ≡ Some line
+    → line_about lines (element_in line) ≡ Some line
 
 -- a line has this element
 abbrev pub is_named : List KeepLine → ℕ → Bool

@@ -9,7 +9,7 @@ use Rattle.mw_revise.specs.declared.keep.KeepLine.{KeepLine}
 use Rattle.mw_revise.specs.declared.keep.KeepLine.TheVariants.{Equal, Fixed}
 use Rattle.mw_revise.specs.declared.site.Site.{Site}
 use Rattle.mw_revise.specs.Blocks.{OpenBlock}
-use Rattle.mw_revise.specs.Elements.{element_bound}
+use Rattle.mw_revise.specs.Elements.{AreNamedOnce, element_bound}
 use Rattle.mw_revise.specs.KeepText.{Known}
 
 -- a line has an element of the board, and values that the element can have
@@ -24,7 +24,8 @@ pub record IsSite (site : Site) : Type 0 where
   pub before : site.before < 2 ^ 12
   pub after : site.after < 2 ^ 12
 
--- a block: its addresses, its bound, the words on the stack and its lines are in their ranges
+-- a block: its addresses, its bound, the words on the stack and its lines are in their ranges, and no element has two
+-- lines
 pub record IsBlock (board : BoardParts) (block : Block) : Type 0 where
   pub before : block.before < 2 ^ 12
   pub after : block.after < 2 ^ 12
@@ -33,6 +34,7 @@ pub record IsBlock (board : BoardParts) (block : Block) : Type 0 where
   pub sp : block.sp ≤ depth_of board
   pub few : length block.lines ≤ 256
   pub lines : All (IsLine board) block.lines
+  pub once : AreNamedOnce block.lines
 
 -- a block that is open
 pub record IsOpen (board : BoardParts) (block : OpenBlock) : Type 0 where
@@ -42,6 +44,7 @@ pub record IsOpen (board : BoardParts) (block : OpenBlock) : Type 0 where
   pub sp : IfSome block.sp (λ sp. sp ≤ depth_of board)
   pub few : length block.lines ≤ 256
   pub lines : All (IsLine board) block.lines
+  pub once : AreNamedOnce block.lines
 
 -- what is known after some lines
 pub record IsKnown (board : BoardParts) (known : Known) : Type 0 where

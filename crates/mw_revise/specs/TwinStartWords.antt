@@ -1,17 +1,13 @@
 -- The words of a twin start at a block: a variable for each old element that isn't fixed, by number, and then one for
 -- each new element that is neither kept nor fixed.
-use Rattle.std.specs.Prelude.{ℕ, ◌+◌, List, [], ◌∷◌, map, find, ◌==◌, slice_index, Option, Some, None}
+use Rattle.std.specs.Prelude.{ℕ, ◌+◌, List, [], ◌∷◌, map, slice_index, Option, Some, None}
 use Rattle.mw_board.specs.declared.parts.BoardParts.{BoardParts}
 use Rattle.mw_board.specs.Elements.{element_count, elements_of}
 use Rattle.mw_revise.specs.declared.keep.KeepLine.{KeepLine}
 use Rattle.mw_revise.specs.declared.keep.KeepLine.TheVariants.{Equal, Fixed}
-use Rattle.mw_revise.specs.Elements.{element_in}
+use Rattle.mw_revise.specs.Elements.{line_about}
 use Rattle.mw_term.specs.declared.kinds.WordKind.TheVariants.{Element}
 use Rattle.mw_term.specs.WordList.{WordList, Ended, AllEnded, ended, list_of, with_constant, with_variable}
-
--- the line of a block about an element
-abbrev pub line_about : List KeepLine → (number : ℕ) → Option KeepLine
-line_about lines number = find (λ (line : KeepLine). element_in line == number) lines
 
 -- an old element, by the line about it: a fixed one is its value, and any other has the variable of its number
 abbrev pub old_element_words : Option KeepLine → (number width : ℕ) → WordList → Ended

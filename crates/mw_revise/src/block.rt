@@ -1,9 +1,10 @@
 // A block of a KEEP text, line by line.
-ghost use Rattle.std.specs.Prelude.{◌≡◌, ◌<◌, IfOk, OnOk, length};
+ghost use Rattle.std.specs.Prelude.{◌≡◌, ◌<◌, IfOk, OnOk, false, length};
 ghost use Rattle.mw_base.specs.Reading.{Gives};
 ghost use Rattle.mw_board.specs.Depth.{depth_of};
 ghost use Rattle.mw_revise.specs.Blocks.{begun_block, with_stack_pointer, room, with_line, with_equal, with_fixed};
 ghost use Rattle.mw_revise.specs.Blocks.{closed_block};
+ghost use Rattle.mw_revise.specs.Elements.{element_in, is_named};
 ghost use Rattle.mw_revise.specs.Kept.{IsLine, IsBlock, IsOpen};
 
 use crate::beginning::{Beginning, bounded};
@@ -44,7 +45,7 @@ impl Model for OpenBlock {
 
 impl OpenBlock {
     /// boundary PLACE BOUND: cause 14 at `boundary`, those of its addresses at the PLACE, 54 at the bound.
-    #[tactic(auto, unfolding(crate::specs::Blocks::begun_block))]
+    #[tactic(auto, using(crate::proofs::Once::none_named), unfolding(crate::specs::Blocks::begun_block))]
     pub fn begin(
         alloc: Global,
         programs: &Programs,
@@ -106,10 +107,12 @@ impl OpenBlock {
     }
 
     /// With a line more.
+    #[tactic(auto, using(crate::proofs::Once::named_more))]
     fn with_line(self, board: &Board, line: KeepLine) -> Result<OpenBlock, NoMemory>
         requires kept { IsOpen board.now self }
         requires room { length self.lines < 256 }
         requires line { IsLine board.now line }
+        requires new { is_named self.lines (element_in line) ≡ false }
         ensures exact { IfOk result (λ block. block ≡ with_line line self) }
         ensures kept { IfOk result (λ block. IsOpen board.now block) }
     {

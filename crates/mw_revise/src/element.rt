@@ -1,7 +1,7 @@
 // The elements of a board in the lines of a block.
-ghost use Rattle.std.specs.Prelude.{◌≡◌, ◌<◌, ◌≤◌, ◌^◌, IfOk, IfSome};
+ghost use Rattle.std.specs.Prelude.{◌≡◌, ◌<◌, ◌≤◌, ◌^◌, IfOk, IfSome, false};
 ghost use Rattle.mw_board.specs.Elements.{element_count};
-ghost use Rattle.mw_revise.specs.Elements.{number_of, is_named, known_element, new_element, element_bound};
+ghost use Rattle.mw_revise.specs.Elements.{number_of, is_named, known_element, new_element, element_bound, element_in};
 ghost use Rattle.mw_revise.specs.Elements.{equal_line, fixed_line};
 ghost use Rattle.mw_revise.specs.Kept.{IsLine};
 
@@ -53,6 +53,7 @@ fn new_element(
 ) -> Result<u32, TextFault>
     ensures exact { result ≡ new_element board.now text.now lines.now element }
     ensures there { IfOk result (λ number. number < element_count board.now) }
+    ensures new { IfOk result (λ number. is_named lines.now number ≡ false) }
 {
     let number = known_element(board, text, element)?;
     if is_named(lines, number) {
@@ -84,6 +85,7 @@ pub(crate) fn equal_line(
 ) -> Result<KeepLine, TextFault>
     ensures exact { result ≡ equal_line board.now text.now lines.now element }
     ensures kept { IfOk result (λ line. IsLine board.now line) }
+    ensures new { IfOk result (λ line. is_named lines.now (element_in line) ≡ false) }
 {
     Ok(KeepLine::Equal(new_element(board, text, lines, element)?))
 }
@@ -100,6 +102,7 @@ pub(crate) fn fixed_line(
 ) -> Result<KeepLine, TextFault>
     ensures exact { result ≡ fixed_line board.now text.now lines.now element old new }
     ensures kept { IfOk result (λ line. IsLine board.now line) }
+    ensures new { IfOk result (λ line. is_named lines.now (element_in line) ≡ false) }
 {
     let number = new_element(board, text, lines, element)?;
     let bound = element_bound(board, number);

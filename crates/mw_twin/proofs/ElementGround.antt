@@ -10,7 +10,7 @@ use Rattle.mw_revise.specs.declared.keep.KeepLine.{KeepLine}
 use Rattle.mw_revise.specs.declared.keep.KeepLine.TheVariants.{Equal, Fixed}
 use Rattle.mw_revise.specs.declared.programs.Side.{Side as Program}
 use Rattle.mw_revise.specs.declared.programs.Side.TheVariants.{Old, New}
-use Rattle.mw_revise.specs.TwinStartWords.{line_about}
+use Rattle.mw_revise.specs.Elements.{line_about}
 use Rattle.mw_revise.specs.TwinWords.{memory_side}
 use Rattle.mw_space.specs.declared.space.Space.{Space}
 use Rattle.mw_space.specs.Spaces.{IsSpaceOf}

@@ -14,9 +14,8 @@ use Rattle.mw_cycle.specs.Elements.{bits_of, element_of}
 use Rattle.mw_cycle.proofs.Values.{width_is}
 use Rattle.mw_revise.specs.declared.keep.KeepLine.{KeepLine}
 use Rattle.mw_revise.specs.declared.keep.KeepLine.TheVariants.{Equal, Fixed}
-use Rattle.mw_revise.specs.Elements.{element_in}
+use Rattle.mw_revise.specs.Elements.{element_in, line_about}
 use Rattle.mw_revise.specs.Kept.{IsLine}
-use Rattle.mw_revise.specs.TwinStartWords.{line_about}
 use Rattle.mw_term.specs.Table.{IsWidth}
 use Rattle.mw_twin.specs.ElementTerms.{HasValuesBelow}
 

@@ -6,7 +6,7 @@ use Rattle.mw_board.specs.declared.parts.BoardParts.{BoardParts}
 use Rattle.mw_cycle.specs.Elements.{bits_of, element_of}
 use Rattle.mw_revise.specs.declared.keep.KeepLine.{KeepLine}
 use Rattle.mw_revise.specs.declared.keep.KeepLine.TheVariants.{Equal, Fixed}
-use Rattle.mw_revise.specs.TwinStartWords.{line_about}
+use Rattle.mw_revise.specs.Elements.{line_about}
 use Rattle.mw_space.specs.declared.space.Space.{Space}
 use Rattle.mw_symboard.proofs.Growing.{grows_constant}
 use Rattle.mw_symmem.specs.Memory.{IsOfWidth, Memory}

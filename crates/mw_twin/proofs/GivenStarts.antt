@@ -13,7 +13,7 @@ use Rattle.mw_revise.specs.Kept.{IsBlock}
 use Rattle.mw_revise.specs.Revision.{IsBlockOf, Revision}
 use Rattle.mw_revise.specs.TwinBudgets.{IsTwinStartAt}
 use Rattle.mw_revise.specs.TwinStart.{start_on}
-use Rattle.mw_revise.specs.TwinStartWords.{line_about}
+use Rattle.mw_revise.specs.Elements.{line_about}
 use Rattle.mw_space.specs.declared.space.Space.{Space}
 use Rattle.mw_space.specs.Entries.{but_waits, value_or_zero}
 use Rattle.mw_space.specs.Spaces.{IsSpaceOf, list_of_space}
@@ -32,7 +32,7 @@ use Rattle.mw_twin.specs.declared.starts.TwinStarts.{TwinStarts}
 use Rattle.mw_twin.specs.Assigned.{IsStateWith, IsTwinAssigned, beside_kind, new_value, new_values, old_value, old_values}
 use Rattle.mw_twin.specs.Assigned.{twins_of}
 use Rattle.mw_twin.specs.Grounds.{StandsForTwins}
-use Rattle.mw_twin.specs.Origins.{AreNamedOnce, Ground, IsGround, ground_in}
+use Rattle.mw_twin.specs.Origins.{Ground, IsGround, ground_in}
 use Rattle.mw_twin.proofs.BothEnvironments.{AreEnvironmentsOf}
 use Rattle.mw_twin.proofs.GivenEnvironments.{AreGiven, given_environments, ready_is, same_first, same_inputs}
 use Rattle.mw_twin.proofs.GivenEnvironments.{variable_value}
@@ -63,9 +63,9 @@ both_environments board block g given memory starts are =
     ground.unlined are.environments
 
 starts_at : (revision : Revision) (block : Block) (g : Ground) (given : Given) (memory : List ℕ) (starts : TwinStarts)
-    → IsBlockOf revision block → AreNamedOnce block.lines → AreStarts revision.board block g given memory starts
+    → IsBlockOf revision block → AreStarts revision.board block g given memory starts
     → IsTwinStartAt revision block (twins_of block starts)
-starts_at revision block g given memory starts of once are =
+starts_at revision block g given memory starts of are =
     let board = revision.board in
     let twins = twins_of block starts in
     let before = are.old_state in
@@ -82,7 +82,7 @@ starts_at revision block g given memory starts of once are =
             new_at = after.at_is;
             old_sp = before.sp_is;
             new_sp = after.sp_is;
-            lines = lines_hold board block g given starts.before.state starts.after.state are.is once are.ground
+            lines = lines_hold board block g given starts.before.state starts.after.state are.is are.ground
                 before.elements after.elements;
             memory = before.memory_is ∙ sym after.memory_is;
           };
@@ -100,14 +100,14 @@ starts_at revision block g given memory starts of once are =
 
 -- two starts with what an assignment gives are those of a twin start that it stands for
 pub given_stand : (revision : Revision) (block : Block) (g : Ground) (given : Given) (memory : List ℕ)
-    (starts : TwinStarts) → IsBlockOf revision block → AreNamedOnce block.lines
+    (starts : TwinStarts) → IsBlockOf revision block
     → AreStarts revision.board block g given memory starts
     → StandsForTwins revision block g given (twins_of block starts)
-given_stand revision block g given memory starts of once are =
+given_stand revision block g given memory starts of are =
     let twins = twins_of block starts in
     let ready : AreUnwaiting twins =
     on_both (λ side. (start_on side twins).env.wait ≡ []) are.environments.old_ready are.environments.new_ready in
-    stands_for revision block g given twins are.ground (starts_at revision block g given memory starts of once are) ready
+    stands_for revision block g given twins are.ground (starts_at revision block g given memory starts of are) ready
     (subst (λ (xs : List ℕ). FitImage g.table given g.memory.reads xs) (sym are.old_state.memory_is) are.fit)
     (both_environments revision.board block g given memory starts are) are.old_state.elements are.new_state.elements
 

@@ -6,13 +6,12 @@ use Rattle.std.proofs.lemmas.List.Elements.{All-from_get_or, All-head, All-tail}
 use Rattle.std.proofs.lemmas.Option.{slice_get-get_or}
 use Rattle.mw_revise.specs.declared.keep.KeepLine.{KeepLine}
 use Rattle.mw_revise.specs.declared.keep.KeepLine.TheVariants.{Equal}
-use Rattle.mw_revise.specs.Elements.{element_in}
-use Rattle.mw_revise.specs.TwinStartWords.{line_about}
-use Rattle.mw_twin.specs.Origins.{AreNamedOnce}
+use Rattle.mw_revise.specs.Elements.{AreNamedOnce, element_in, line_about}
 
 -- what is so of each line that is the one about its element, is so of all lines, where each has one about it at most
 pub all_lines : (P : KeepLine → Type 0) (lines : List KeepLine) → AreNamedOnce lines
     → ((line : KeepLine) → line_about lines (element_in line) ≡ Some line → P line) → All P lines
+unfolding AreNamedOnce
 all_lines P lines once each =
     All-from_get_or P lines (Equal 0)
     (λ i below.

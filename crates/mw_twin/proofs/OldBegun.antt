@@ -100,7 +100,7 @@ way_begun : (s : Scene) (space : Space) (before after : List ℕ) (path : Functi
 unfolding path_along
 way_begun s space before after path scene ground everywhere =
     let starts = twin_starts_are_there s.revision s.block (ground_in space before after) scene.revision_is scene.block_of
-    scene.block_is scene.once ground in
+    scene.block_is ground in
     let some = starts.there (λ n. 0) in
     record {
       stands = ground;

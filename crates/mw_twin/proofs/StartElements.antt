@@ -11,17 +11,16 @@ use Rattle.mw_revise.specs.declared.keep.KeepLine.{KeepLine}
 use Rattle.mw_revise.specs.declared.keep.KeepLine.TheVariants.{Equal, Fixed}
 use Rattle.mw_revise.specs.declared.programs.Side.{Side}
 use Rattle.mw_revise.specs.declared.programs.Side.TheVariants.{Old, New}
-use Rattle.mw_revise.specs.Elements.{element_in}
+use Rattle.mw_revise.specs.Elements.{element_in, line_about}
 use Rattle.mw_revise.specs.Kept.{IsBlock, IsLine}
 use Rattle.mw_revise.specs.Together.{Holds}
-use Rattle.mw_revise.specs.TwinStartWords.{line_about}
 use Rattle.mw_symmem.specs.Memory.{IsOfWidth}
 use Rattle.mw_symmem.specs.Words.{IsVariable}
 use Rattle.mw_symmem.proofs.Images.{value_within}
 use Rattle.mw_term.specs.declared.kinds.WordKind.TheVariants.{Element}
 use Rattle.mw_term.specs.Assigned.{Given}
 use Rattle.mw_term.specs.Values.{term_value}
-use Rattle.mw_twin.specs.Origins.{AreNamedOnce, Ground, IsGround, terms_on}
+use Rattle.mw_twin.specs.Origins.{Ground, IsGround, terms_on}
 use Rattle.mw_twin.proofs.ElementValues.{behind_each_other, element_value, in_front, past, with_elements}
 use Rattle.mw_twin.proofs.KeptLines.{all_lines, line_is_about}
 use Rattle.mw_twin.proofs.StatesOf.{AreValues}
@@ -58,10 +57,10 @@ module _ (board : BoardParts) (block : Block) (g : Ground) (given : Given) (grou
 
 -- each line of the block holds of them
 pub lines_hold : (board : BoardParts) (block : Block) (g : Ground) (given : Given) (old_state new_state : BoardState)
-    → IsBlock board block → AreNamedOnce block.lines → IsGround board block g → HasElements Old board g given old_state
+    → IsBlock board block → IsGround board block g → HasElements Old board g given old_state
     → HasElements New board g given new_state → All (Holds board old_state new_state) block.lines
-lines_hold board block g given old_state new_state is once ground old_has new_has =
-    all_lines (Holds board old_state new_state) block.lines once
+lines_hold board block g given old_state new_state is ground old_has new_has =
+    all_lines (Holds board old_state new_state) block.lines is.once
     (λ line found.
     line_holds board block g given ground old_state new_state old_has new_has line
     (line_is_about (IsLine board) block.lines (element_in line) line is.lines found).holds found)

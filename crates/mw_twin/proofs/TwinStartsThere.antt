@@ -29,7 +29,7 @@ use Rattle.mw_term.specs.Assigned.{Given}
 use Rattle.mw_term.specs.Values.{term_value}
 use Rattle.mw_term.specs.WordList.{term_of}
 use Rattle.mw_twin.specs.Grounds.{HaveTwinStarts, StandsForTwins, course_on}
-use Rattle.mw_twin.specs.Origins.{AreNamedOnce, Ground, IsGround, origin_on}
+use Rattle.mw_twin.specs.Origins.{Ground, IsGround, origin_on}
 use Rattle.mw_twin.proofs.BothEnvironments.{AreEnvironmentsOf, both_are_reached, both_are_there, both_stay}
 use Rattle.mw_twin.proofs.BothEnvironments.{first_line}
 use Rattle.mw_twin.proofs.ElementValues.{with_elements}
@@ -140,9 +140,9 @@ module _ (revision : Revision) (block : Block) (g : Ground) (given : Given) (twi
 -- ---- each assignment is that of a twin start
 
 there : (revision : Revision) (block : Block) (g : Ground) → IsRevision revision → IsBlockOf revision block
-    → IsBlock revision.board block → AreNamedOnce block.lines → IsGround revision.board block g → (given : Given)
+    → IsBlock revision.board block → IsGround revision.board block g → (given : Given)
     → (twins : TwinStart) × StandsForTwins revision block g given twins
-there revision block g is of fits once ground given =
+there revision block g is of fits ground given =
     let board = revision.board in
     let work = ground.space.workspace in
     let few = is.board.few_flipflops in
@@ -174,7 +174,7 @@ there revision block g is of fits once ground given =
             new_at = after.at_is;
             old_sp = before.sp_is;
             new_sp = after.sp_is;
-            lines = lines_hold board block g given before.state after.state fits once ground before.elements
+            lines = lines_hold board block g given before.state after.state fits ground before.elements
                 after.elements;
             memory = before.memory_is ∙ sym after.memory_is;
           };
@@ -234,9 +234,9 @@ reached revision block g ground twins starts ready =
     )
 
 pub twin_starts_are_there : (revision : Revision) (block : Block) (g : Ground) → IsRevision revision
-    → IsBlockOf revision block → IsBlock revision.board block → AreNamedOnce block.lines
+    → IsBlockOf revision block → IsBlock revision.board block
     → IsGround revision.board block g → HaveTwinStarts revision block g
-twin_starts_are_there revision block g is of fits once ground = record {
-  there = there revision block g is of fits once ground;
+twin_starts_are_there revision block g is of fits ground = record {
+  there = there revision block g is of fits ground;
   reached = reached revision block g ground;
 }

@@ -12,7 +12,7 @@ use Rattle.mw_revise.specs.declared.keep.Block.{Block}
 use Rattle.mw_revise.specs.declared.keep.KeepLine.{KeepLine}
 use Rattle.mw_revise.specs.declared.keep.KeepLine.TheVariants.{Equal, Fixed}
 use Rattle.mw_revise.specs.TwinStart.{TwinStart}
-use Rattle.mw_revise.specs.TwinStartWords.{line_about}
+use Rattle.mw_revise.specs.Elements.{line_about}
 use Rattle.mw_sim.specs.Start.{Start}
 use Rattle.mw_symmem.specs.Memory.{base_word}
 use Rattle.mw_term.specs.Assigned.{Given}

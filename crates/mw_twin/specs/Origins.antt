@@ -7,9 +7,8 @@ use Rattle.mw_revise.specs.declared.keep.KeepLine.{KeepLine}
 use Rattle.mw_revise.specs.declared.keep.KeepLine.TheVariants.{Equal, Fixed}
 use Rattle.mw_revise.specs.declared.programs.Side.{Side}
 use Rattle.mw_revise.specs.declared.programs.Side.TheVariants.{Old, New}
-use Rattle.mw_revise.specs.Elements.{element_in}
+use Rattle.mw_revise.specs.Elements.{element_in, line_about}
 use Rattle.mw_revise.specs.Sites.{address_on}
-use Rattle.mw_revise.specs.TwinStartWords.{line_about}
 use Rattle.mw_revise.specs.TwinWords.{memory_side}
 use Rattle.mw_space.specs.declared.space.Space.{Space}
 use Rattle.mw_space.specs.Spaces.{IsSpaceOf}
@@ -25,11 +24,6 @@ use Rattle.mw_term.specs.declared.word.Word.{Word}
 use Rattle.mw_term.specs.Table.{Table}
 use Rattle.mw_term.specs.Values.{term_value}
 use Rattle.mw_term.specs.WordList.{term_of}
-
--- each element has one line about it at most
-abbrev pub AreNamedOnce : List KeepLine → Type 0
-AreNamedOnce lines = (n : ℕ) (line : KeepLine) → slice_get lines n ≡ Some line
-    → line_about lines (element_in line) ≡ Some line
 
 -- what both runs work on: a table of terms, the words of the case, a memory over them, and the terms of the elements of
 -- both boards at the start, by their numbers

@@ -2,16 +2,14 @@
 use Rattle.mw_revise.specs.declared.keep.Block.{Block}
 use Rattle.mw_revise.specs.Kept.{IsBlock}
 use Rattle.mw_revise.specs.Revision.{IsBlockOf, IsRevision, Revision}
-use Rattle.mw_twin.specs.Origins.{AreNamedOnce}
 
 -- a revision and a block
 pub record Scene : Type 0 where
   pub revision : Revision
   pub block : Block
 
--- The block is one of the revision, and keeps the rules of blocks; none of its elements has two lines.
+-- The block is one of the revision, and keeps the rules of blocks.
 pub record IsScene (s : Scene) : Type 0 where
   pub revision_is : IsRevision s.revision
   pub block_of : IsBlockOf s.revision s.block
   pub block_is : IsBlock s.revision.board s.block
-  pub once : AreNamedOnce s.block.lines

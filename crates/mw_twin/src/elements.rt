@@ -2,7 +2,8 @@
 ghost use Rattle.std.specs.Prelude.{◌≡◌, ℕ, ◌+◌, ◌<◌, ◌≤◌, ◌^◌, [], length, drop, IfOk, IfSome, OnOk, Some};
 ghost use Rattle.mw_board.specs.Elements.{element_count, element_width};
 ghost use Rattle.mw_revise.specs.Kept.{IsBlock};
-ghost use Rattle.mw_revise.specs.TwinStartWords.{all_element_words, line_about, new_element_words, old_element_words};
+ghost use Rattle.mw_revise.specs.Elements.{line_about};
+ghost use Rattle.mw_revise.specs.TwinStartWords.{all_element_words, new_element_words, old_element_words};
 ghost use Rattle.mw_revise.specs.TwinStartWords.{twin_start_words, widths_of};
 ghost use Rattle.mw_space.specs.Spaces.{list_of_space};
 ghost use Rattle.mw_symboard.specs.Parts.{AreElements};

@@ -21,7 +21,7 @@ ghost use Rattle.mw_term.specs.Table.{IsTable};
 ghost use Rattle.mw_term.specs.WordList.{term_of};
 ghost use Rattle.mw_twin.specs.Assigned.{HasLists, IsTwinAssigned, beside_kind, twins_of, values_under};
 ghost use Rattle.mw_twin.specs.Grounds.{StandsForTwins};
-ghost use Rattle.mw_twin.specs.Origins.{AreNamedOnce, IsGround, ground_in};
+ghost use Rattle.mw_twin.specs.Origins.{IsGround, ground_in};
 
 use mw_base::NoMemory;
 use mw_board::Board;
@@ -140,7 +140,7 @@ pub fn starts_of(
     requires before { length before.now ≡ element_count board.now }
     requires after { length after.now ≡ element_count board.now }
     ensures stands { IfOk result (λ starts. (revision : Revision) → revision.board ≡ board.now → IsRevision revision
-        → IsBlockOf revision block.now → AreNamedOnce block.now.lines
+        → IsBlockOf revision block.now
         → StandsForTwins revision block.now (ground_in space.now before.now after.now) (given_by given.now)
         (twins_of block.now starts)) }
     ensures assigned { IfOk result (IsTwinAssigned board.now block.now (list_of_space space.now) (given_by given.now)) }

@@ -1,5 +1,5 @@
 use Rattle.std.proofs.Common.{◌≡◌, drop}
-use Rattle.mw_revise.specs.TwinStartWords.{line_about}
+use Rattle.mw_revise.specs.Elements.{line_about}
 use Rattle.mw_twin.proofs.elements.line_about.Given as goal
 
 abbrev pub invariant-loop-line : goal.invariant-loop-line

@@ -2,7 +2,8 @@ use Rattle.std.proofs.Common.{◌≡◌, ◌+◌, ◌^◌, ap, arith, slice_inde
 use Rattle.std.specs.Prelude.{IfSome}
 use Rattle.std.proofs.lemmas.Grind.{get_or_default_zero}
 use Rattle.mw_board.specs.Elements.{element_count}
-use Rattle.mw_revise.specs.TwinStartWords.{line_about, new_element_words, widths_of}
+use Rattle.mw_revise.specs.Elements.{line_about}
+use Rattle.mw_revise.specs.TwinStartWords.{new_element_words, widths_of}
 use Rattle.mw_space.specs.Spaces.{list_of_space}
 use Rattle.mw_symmem.specs.Memory.{IsOfWidth}
 use Rattle.mw_twin.specs.ElementTerms.{HasBelow, HasValuesBelow, IsNew}

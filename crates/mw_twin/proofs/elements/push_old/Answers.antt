@@ -1,6 +1,7 @@
 use Rattle.std.proofs.Common.{◌+◌, ◌^◌, ap, arith, subst, sym, ◌∙◌}
 use Rattle.std.specs.Prelude.{IfSome}
-use Rattle.mw_revise.specs.TwinStartWords.{line_about, old_element_words, widths_of}
+use Rattle.mw_revise.specs.Elements.{line_about}
+use Rattle.mw_revise.specs.TwinStartWords.{old_element_words, widths_of}
 use Rattle.mw_space.specs.Spaces.{list_of_space}
 use Rattle.mw_symmem.specs.Memory.{IsOfWidth}
 use Rattle.mw_twin.specs.ElementTerms.{HasValuesBelow, IsOld}

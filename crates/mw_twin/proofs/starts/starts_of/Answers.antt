@@ -71,8 +71,8 @@ returns c =
         new_trimmed = c.in_ok-new_env.ensures.trimmed;
       };
     } in record {
-      stands = λ revision same is of once.
-          given_stand revision block g given memory starts of once
+      stands = λ revision same is of.
+          given_stand revision block g given memory starts of
           (subst (λ (b : BoardParts). AreStarts b block g given memory starts) (sym same) are);
       assigned = given_assigned board block space c.args.before.now c.args.after.now given memory starts are
           c.in_ok-memory.ensures.words;
