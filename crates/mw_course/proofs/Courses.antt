@@ -13,8 +13,8 @@ use Rattle.mw_rel.specs.Job.{IsJob, Job}
 use Rattle.mw_course.specs.declared.course.Course.{Course}
 use Rattle.mw_space.specs.declared.space.Space.{Space}
 use Rattle.mw_course.specs.declared.run.Run.{Run}
-use Rattle.mw_course.specs.declared.segment.Came.{Came}
-use Rattle.mw_course.specs.declared.segment.Came.TheVariants as came
+use Rattle.mw_segment.specs.declared.cycles.Came.{Came}
+use Rattle.mw_segment.specs.declared.cycles.Came.TheVariants as came
 use Rattle.mw_course.specs.Courses.{Comes, HasRun, HaveCome, IsComeTo, IsGoing, IsOnCourse, IsReady, IsTurnedOnCourse}
 use Rattle.mw_course.specs.Courses.{Waits, WaitsOnCourse}
 use Rattle.mw_course.specs.OnWay.{HasMetCase, HasMetSegment, IsFirst, IsOnRun, IsOnStep, IsRunOf, IsTurnedOnStep}

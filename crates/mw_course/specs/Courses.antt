@@ -20,8 +20,8 @@ use Rattle.mw_rel.specs.Free.{numbered}
 use Rattle.mw_rel.specs.Job.{Job}
 use Rattle.mw_course.specs.declared.course.Course.{Course}
 use Rattle.mw_course.specs.declared.run.Run.{Run}
-use Rattle.mw_course.specs.declared.segment.Came.{Came}
-use Rattle.mw_course.specs.declared.segment.Came.TheVariants as came
+use Rattle.mw_segment.specs.declared.cycles.Came.{Came}
+use Rattle.mw_segment.specs.declared.cycles.Came.TheVariants as came
 use Rattle.mw_course.specs.OnWay.{HasMetCase, HasMetSegment, IsOnRun, IsOnStep, IsRunOf, IsTurnedOnRun, IsTurnedOnStep}
 use Rattle.mw_course.specs.Steps.{IsUnderway}
 use Rattle.mw_term.specs.Functions.{Function}

@@ -15,6 +15,7 @@ use Rattle.mw_rel.specs.Job.{Job}
 use Rattle.mw_rel.specs.Start.{addresses_of}
 use Rattle.mw_term.specs.WordList.{AllEnded, WordList}
 use Rattle.mw_space.specs.declared.space.Space.{Space}
+pub use Rattle.mw_segment.specs.Left.{standing_on}
 pub use Rattle.mw_space.specs.Spaces.{list_of_space}
 use Rattle.mw_course.specs.Starts.{Ground}
 use Rattle.mw_course.specs.Steps.{said_from}
@@ -31,10 +32,6 @@ ComesTo job number bits left =
 -- that list, and terms of it at which several things end
 abbrev pub all_ended : (terms : List ℕ) → WordList → AllEnded
 all_ended terms l = record { list = l; terms = terms }
-
--- where its board stands
-abbrev pub standing_on : Space → Symbolic → Standing
-standing_on space o = standing_in o (writes_of space.memory o.place.side)
 
 -- what is left where the board has begun no cycle, and may make so many
 abbrev pub left_of_cycles : Job → Space → (registers : List ℕ) → Symbolic → (count : ℕ) → List Bool → CaseWords

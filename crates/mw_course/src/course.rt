@@ -11,10 +11,11 @@ ghost use Rattle.mw_course.specs.Courses.{IsTurnedOnCourse, MayBeGiven, with_boa
 
 use crate::registers::Registers;
 use crate::run::Run;
-use crate::segment::{Came, segment};
+use crate::segment::segment;
 use crate::step::{begin, turn};
 use mw_base::NoMemory;
 use mw_rel::Job;
+use mw_segment::Came;
 use mw_symboard::SymBoard;
 use mw_symmach::SymMach;
 use mw_symmem::Turn;

@@ -12,25 +12,9 @@ use crate::reached::is_boundary;
 use crate::run::Run;
 use mw_base::NoMemory;
 use mw_rel::Job;
+use mw_segment::Came;
 use mw_symmem::Turn;
-use mw_term::{DecidedKind, Term};
 use std::alloc::Global;
-
-/// Where a run comes to in its segment.
-#[derive(Clone, Copy)]
-pub(crate) enum Came {
-    /// It waits for the next bit.
-    Asks {
-        /// What the bit says.
-        kind: DecidedKind,
-        /// A term of one bit, which has the bit's value.
-        term: Term,
-    },
-    /// It is at a boundary.
-    Reached,
-    /// The bound's number of cycles has passed without one.
-    Late,
-}
 
 /// Goes on through the cycles of the segment that began at the boundary of this number: to the next bit, or to the end.
 /// So many cycles are finished.

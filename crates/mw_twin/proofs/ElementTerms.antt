@@ -3,6 +3,8 @@ use Rattle.std.proofs.Common.{◌≡◌, inl, inr, ℕ, ◌+◌, ◌<◌, List, 
 use Rattle.std.proofs.Common.{length-append, append_assoc, refl, ap, sym, subst, ◌∙◌, arith, Option, Some, None}
 use Rattle.std.proofs.lemmas.Bool.{cases_lt}
 use Rattle.mw_board.specs.declared.parts.BoardParts.{BoardParts}
+use Rattle.mw_course.specs.Boundaries.{IsElementBelow}
+use Rattle.mw_course.proofs.Boundaries.{below_more, below_push}
 use Rattle.mw_cycle.specs.Elements.{bits_of, element_of}
 use Rattle.mw_revise.specs.declared.keep.KeepLine.{KeepLine}
 use Rattle.mw_revise.specs.declared.keep.KeepLine.TheVariants.{Equal, Fixed}
@@ -21,33 +23,8 @@ use Rattle.mw_term.specs.Table.{Extends, IsTable, Table, table_of}
 use Rattle.mw_term.specs.Values.{IsTermOf, Keeps, op_value}
 use Rattle.mw_term.specs.WordList.{term_of, variable}
 use Rattle.mw_rel.proofs.Elements.{back_at, front_at}
-use Rattle.mw_twin.specs.ElementTerms.{AreMade, HasBelow, HasValue, HasVariable, IsElementBelow, IsNew, IsNewBy, IsOld}
+use Rattle.mw_twin.specs.ElementTerms.{AreMade, HasBelow, HasValue, HasVariable, IsNew, IsNewBy, IsOld}
 use Rattle.mw_twin.specs.ElementTerms.{IsOldBy, IsTerm, WentOn}
-
--- ---- variables of elements
-
-below_more : (number : ℕ) (words : List Word) → HaveKinds (IsElementBelow number) words
-    → HaveKinds (IsElementBelow (number + 1)) words
-below_more number words kinds place term kind is =
-    let own = kinds place term kind is in (own.0, omega (arith, own.1), own.2)
-
-below_push : (number : ℕ) (words : List Word) (term : ℕ) → HaveKinds (IsElementBelow number) words
-    → HaveKinds (IsElementBelow (number + 1)) (words ++ variable term (Element number) ∷ [])
-below_push number words term kinds place other kind at =
-    elim (pushed words (variable term (Element number)) place (variable other kind) at) [
-      | inl h ↦ below_more number words kinds place other kind h.1
-      | inr h ↦ (number, omega arith, sym (kind_of h.1))
-    ]
-
-not_below : (number n : ℕ) → n < number → Element number ≡ Element n → ⊥
-not_below number n below same = let equal : number ≡ n = cc in omega arith
-
--- an element has no variable yet
-pub element_absent : (number : ℕ) (words : List Word) → HaveKinds (IsElementBelow number) words
-    → term_of words (Element number) ≡ None
-element_absent number words kinds =
-    absent words (Element number) (λ place term is.
-    let own = kinds place term (Element number) is in not_below number own.0 own.1 own.2)
 
 -- ---- a space with one term more
 

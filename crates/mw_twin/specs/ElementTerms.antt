@@ -2,6 +2,7 @@
 use Rattle.std.specs.Prelude.{◌≡◌, ℕ, ◌+◌, ◌<◌, ◌++◌, List, length, Option, Some, None, slice_index}
 use Rattle.mw_board.specs.declared.parts.BoardParts.{BoardParts}
 use Rattle.mw_board.specs.Elements.{element_count}
+use Rattle.mw_course.specs.Boundaries.{IsElementBelow}
 use Rattle.mw_cycle.specs.Elements.{bits_of, element_of}
 use Rattle.mw_revise.specs.declared.keep.KeepLine.{KeepLine}
 use Rattle.mw_revise.specs.declared.keep.KeepLine.TheVariants.{Equal, Fixed}
@@ -18,10 +19,6 @@ use Rattle.mw_term.specs.Table.{Table}
 use Rattle.mw_term.specs.Values.{term_value}
 
 -- ---- a space
-
--- the variable of an element with a lower number
-abbrev pub IsElementBelow : (number : ℕ) → WordKind → Type 0
-IsElementBelow number kind = (n : ℕ) × (n < number) × (kind ≡ Element n)
 
 -- a space whose variables are those of elements with lower numbers
 pub record HasBelow (number : ℕ) (space : Space) : Type 0 where

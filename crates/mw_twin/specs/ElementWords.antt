@@ -2,14 +2,11 @@
 use Rattle.std.specs.Prelude.{ℕ, ◌+◌, List, ◌++◌, slice_index}
 use Rattle.mw_board.specs.declared.parts.BoardParts.{BoardParts}
 use Rattle.mw_board.specs.Elements.{element_count}
+pub use Rattle.mw_course.specs.Listed.{all_ended}
 use Rattle.mw_revise.specs.declared.keep.KeepLine.{KeepLine}
 use Rattle.mw_revise.specs.Elements.{line_about}
 use Rattle.mw_revise.specs.TwinStartWords.{Maker, all_element_words, new_element_words, old_element_words}
 use Rattle.mw_term.specs.WordList.{AllEnded, WordList}
-
--- a list, and terms of it at which several things end
-abbrev pub all_ended : (terms : List ℕ) → WordList → AllEnded
-all_ended terms l = record { list = l; terms = terms }
 
 -- what makes the term of an old element
 abbrev pub old_maker : List KeepLine → Maker

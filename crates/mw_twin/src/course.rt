@@ -17,7 +17,7 @@ ghost use Rattle.mw_term.specs.declared.word.Word.{Word};
 ghost use Rattle.mw_term.specs.Functions.{Function, always};
 ghost use Rattle.mw_term.specs.Table.{Table};
 ghost use Rattle.mw_twin.specs.Origins.{IsElementKind, IsGround, ground_in};
-ghost use Rattle.mw_twin.specs.Courses.{GoesOnCourse, HaveCome, IsGiven, IsOnCourse, IsReady, IsReadyIn, IsTurned};
+ghost use Rattle.mw_twin.specs.Courses.{GoesOnCourse, HaveCome, IsGiven, IsGivenTo, IsOnCourse, IsReady, IsReadyIn, IsTurned};
 ghost use Rattle.mw_twin.specs.Courses.{MayBeGiven};
 ghost use Rattle.mw_twin.specs.Scenes.{IsScene};
 
@@ -196,9 +196,7 @@ impl Course {
     /// Gives its value to the bit that the course waits for.
     pub fn decide(&mut self, value: bool)
         requires { MayBeGiven self.old.before self.old.after }
-        ensures given { IsGiven value self.old.before self.new.before self.old.after self.new.after }
-        ensures space { self.new.space ≡ self.old.space }
-        ensures elements { self.new.elements ≡ self.old.elements }
+        ensures { IsGivenTo value self.old self.new }
     {
         give(&mut self.before, &mut self.after, value);
     }
@@ -211,10 +209,7 @@ impl Course {
     /// Memory ran out.
     pub fn other(&self, alloc: Global) -> Result<Course, NoMemory>
         requires { MayBeGiven self.now.before self.now.after }
-        ensures given { IfOk result
-            (λ other. IsGiven true self.now.before other.before self.now.after other.after) }
-        ensures space { IfOk result (λ other. other.space ≡ self.now.space) }
-        ensures elements { IfOk result (λ other. other.elements.items ≡ self.now.elements.items) }
+        ensures { IfOk result (IsGivenTo true self.now) }
     {
         let mut other = Course {
             space: self.space.copy(alloc)?,

@@ -1,9 +1,10 @@
+use Rattle.mw_course.proofs.Boundaries.{below_absent}
 use Rattle.mw_symboard.proofs.VariableWidths.{wide_variable}
-use Rattle.mw_twin.proofs.ElementTerms.{below_variable, element_absent, variable_there}
+use Rattle.mw_twin.proofs.ElementTerms.{below_variable, variable_there}
 use Rattle.mw_twin.proofs.elements.variable.Goals as goal
 
 pub fresh-requires-clause-own : goal.fresh-requires-clause-own
-fresh-requires-clause-own c = element_absent _ _ c.requires.below.kinds
+fresh-requires-clause-own c = below_absent _ _ c.requires.below.kinds
 
 pub returns-clause-wide : goal.returns-clause-wide
 returns-clause-wide c = wide_variable _ _ _ _ _ c.in_ok-term.ensures.made
