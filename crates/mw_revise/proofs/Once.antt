@@ -50,13 +50,13 @@ once_more {X} key items last once free n item at =
           ∙ ap (λ passes. cond passes (Some last) None) (eq-eqb (key last) (key last) refl))
     ]
 
--- no element has two lines where one that has none gets one
+-- lines are so with one more, about an element that has none
 pub named_more : (lines : List KeepLine) (last : KeepLine) → AreNamedOnce lines
     → is_named lines (element_in last) ≡ false → AreNamedOnce (lines ++ last ∷ [])
 unfolding AreNamedOnce
 named_more lines last once free = once_more element_in lines last once free
 
--- of no lines none has an element
+-- before the first line
 pub none_named : AreNamedOnce []
 unfolding AreNamedOnce
 none_named n line at = cc

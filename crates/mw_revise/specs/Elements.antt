@@ -32,7 +32,7 @@ element_in (Fixed element old_value new_value) = element
 abbrev pub line_about : List KeepLine → (number : ℕ) → Option KeepLine
 line_about lines number = find (λ (line : KeepLine). element_in line == number) lines
 
--- each element has one line about it at most
+-- each line is the one about its element
 unfoldable pub AreNamedOnce : List KeepLine → Type 0
 AreNamedOnce lines = (n : ℕ) (line : KeepLine) → slice_get lines n ≡ Some line
     → line_about lines (element_in line) ≡ Some line

@@ -24,8 +24,8 @@ pub record IsSite (site : Site) : Type 0 where
   pub before : site.before < 2 ^ 12
   pub after : site.after < 2 ^ 12
 
--- a block: its addresses, its bound, the words on the stack and its lines are in their ranges, and no element has two
--- lines
+-- a block: its addresses, its bound, the words on the stack and its lines are in their ranges, and each line is the one
+-- about its element
 pub record IsBlock (board : BoardParts) (block : Block) : Type 0 where
   pub before : block.before < 2 ^ 12
   pub after : block.after < 2 ^ 12

@@ -25,7 +25,7 @@ new_element_words None number width kept l = with_variable (Element number) widt
 abbrev pub Maker : Type 0
 Maker = (number width : ℕ) → WordList → Ended
 
--- the terms of elements of some widths, whose numbers are those from one on
+-- the terms of elements of some widths, which are numbered from this number on
 abbrev pub all_element_words : Maker → (number : ℕ) → (widths : List ℕ) → WordList → AllEnded
 all_element_words make number [] l = record { list = l; terms = [] }
 all_element_words make number (width ∷ rest) l =

@@ -3,7 +3,8 @@ use crate::keep::Keep;
 use mw_board::{Board, Store};
 use std::marker::Model;
 
-/// An old and a new program on one board, and where and how they stand together.
+/// An old and a new program on one board, and where and how they stand together. Each boundary is the one at its control
+/// address, in both programs.
 #[derive(Drop)]
 pub struct Revision {
     /// The board.

@@ -30,7 +30,8 @@ CyclesAreThere =
     (board : BoardParts) (store : List ℕ) (t : Table) (words : List Word) (m : Memory) (o : Symbolic)
     → IsSymbolic board store t words m o → (cycles : ℕ) × HaveVariables o.place.side board t words cycles
 
--- no variable of a list of the board of a side that goes by cycle: of a base read, of an input, of the other side's board
+-- a variable of none of the lists of the board of a side that go by cycle: of an element, a base read or an input, say, or
+-- of the other side's board
 abbrev pub IsKindOfOthers : Side → WordKind → Type 0
 IsKindOfOthers side kind = (series : Series) (n : ℕ) → goes_by_cycle series ≡ true → kind ≢ kind_of side series n
 

@@ -156,7 +156,8 @@ impl SymBoard {
 
     /// A board at a control address, with so many words on its stack, and with these terms for its elements, by their
     /// numbers. It reads and writes the board's side of the memory. It may go on where the address is below 4,096, the
-    /// stack has so many words, and each term has its element's width. No cycle is finished and no input taken.
+    /// stack has so many words, each term has its element's width, and the words have no line and no noise of the board's
+    /// side. No cycle is finished and no input taken.
     ///
     /// # Errors
     ///
@@ -182,9 +183,8 @@ impl SymBoard {
 
     /// A board beside another, like one that `new` makes; but it reads and writes the machine's side of the memory, its
     /// variables are those of a board beside another, and the line of its first cycle is this term of one bit, so that
-    /// no variable stands for it. Inputs have the other board's variables, by their numbers. It may go on where the words
-    /// have no line and no noise of a board beside another, and what `new` says holds; the other board's words may be
-    /// there.
+    /// no variable stands for it. Inputs have the other board's variables, by their numbers. It may go on where `new` says,
+    /// but that the words have no line and no noise of a board beside another; the other board's may be there.
     ///
     /// # Errors
     ///
@@ -276,7 +276,8 @@ impl SymBoard {
         ensures place { self.new.place ≡ self.old.place }
         ensures events { self.new.events ≡ self.old.events }
         ensures asked { self.new.asked ≡ self.old.asked }
-        ensures goes { OnOk result (GoesOn (IsCycleKind self.old.place.side self.old.place.cycle self.old.place.taken self.old.place.line)
+        ensures goes { OnOk result (GoesOn (IsCycleKind self.old.place.side self.old.place.cycle
+            self.old.place.taken self.old.place.line)
             terms.old terms.new words.old words.new memory.old memory.new) }
         ensures writes { OnOk result (KeepsWrites memory.old memory.new) }
         ensures reads { OnOk result (length memory.new.reads ≤ length memory.old.reads + reads_to_come self.old) }
@@ -708,7 +709,8 @@ impl SymBoard {
         requires symbolic { IsSymbolic board.now store.now.words terms.old words.old memory.old self.old }
         ensures turn { IfOk result
             (IsTurn board.now store.now.words terms.new words.new memory.old memory.new self.old self.new) }
-        ensures goes { OnOk result (GoesOn (IsCycleKind self.old.place.side self.old.place.cycle self.old.place.taken self.old.place.line)
+        ensures goes { OnOk result (GoesOn (IsCycleKind self.old.place.side self.old.place.cycle
+            self.old.place.taken self.old.place.line)
             terms.old terms.new words.old words.new memory.old memory.new) }
         ensures reads { OnOk result (length memory.new.reads ≤ length memory.old.reads + reads_to_come self.old) }
         ensures other { OnOk result (writes_of memory.new (other_side self.old.place.side)

@@ -17,13 +17,14 @@ use Rattle.mw_term.specs.declared.decided.DecidedKind.{DecidedKind}
 use Rattle.mw_term.specs.Functions.{Function}
 use Rattle.mw_term.specs.Table.{Table}
 use Rattle.mw_term.specs.Values.{term_value}
-use Rattle.mw_twin.specs.Courses.{BitsGoOnCourse, BitsMakeReady, HasDecidedOn, HasTaken, IsGiven, IsOnCourse}
+use Rattle.mw_course.specs.Courses.{HasTaken}
+use Rattle.mw_twin.specs.Courses.{BitsGoOnCourse, BitsMakeReady, HasDecidedOn, IsGiven, IsOnCourse}
 use Rattle.mw_twin.specs.Courses.{IsReadyIn, WaitsIn, WaitsOnCourse}
 use Rattle.mw_twin.specs.declared.course.Course.{Course}
 use Rattle.mw_twin.specs.OnTwins.{AsksInNew, AsksInOld, Behind, IsOnNew, IsOnOld}
 use Rattle.mw_twin.specs.Programs.{program_on}
 use Rattle.mw_twin.specs.Ready.{IsInNew, IsInOld}
-use Rattle.mw_twin.specs.Scenes.{Scene}
+use Rattle.mw_twin.specs.RevisedBlocks.{RevisedBlock}
 use Rattle.mw_twin.specs.TwinPaths.{HasDecided}
 use Rattle.mw_twin.specs.Origins.{ground_in, origin_on}
 use Rattle.mw_twin.proofs.TwinCases.{both_true}
@@ -100,7 +101,7 @@ running_given program space o kind value running symbolic = record {
       record { unlined = lines.unlined; begun = lines.begun; later = lines.later };
 }
 
-in_old_given : (s : Scene) (space : Space) (o now : Symbolic) (after : List ℕ) (kind : DecidedKind) (term : ℕ)
+in_old_given : (s : RevisedBlock) (space : Space) (o now : Symbolic) (after : List ℕ) (kind : DecidedKind) (term : ℕ)
     (value : Bool) → IsInOld s space o after
     → Asks s.revision.board s.revision.before space.terms space.words space.memory o kind term → HasTaken value o now
     → IsInOld s space now after
@@ -110,7 +111,7 @@ in_old_given s space o now after kind term value is asks taken =
     (taken.symbolic s.revision.board s.revision.before space.terms space.words space.memory kind term asks
     is.running.symbolic) in
     subst (λ (b : Symbolic). IsInOld s space b after) (sym same) (record {
-      scene = is.scene;
+      revised = is.revised;
       running = running_given (program_on Old s.revision) space o kind value is.running symbolic;
       side = is.side;
       reads = is.reads;
@@ -121,7 +122,7 @@ in_old_given s space o now after kind term value is asks taken =
       wide = is.wide;
     })
 
-in_new_given : (s : Scene) (space : Space) (before o now : Symbolic) (kind : DecidedKind) (term : ℕ) (value : Bool)
+in_new_given : (s : RevisedBlock) (space : Space) (before o now : Symbolic) (kind : DecidedKind) (term : ℕ) (value : Bool)
     → IsInNew s space before o
     → Asks s.revision.board s.revision.after space.terms space.words space.memory o kind term → HasTaken value o now
     → IsInNew s space before now
@@ -131,7 +132,7 @@ in_new_given s space before o now kind term value is asks taken =
     (taken.symbolic s.revision.board s.revision.after space.terms space.words space.memory kind term asks
     is.running.symbolic) in
     subst (λ (b : Symbolic). IsInNew s space before b) (sym same) (record {
-      scene = is.scene;
+      revised = is.revised;
       running = running_given (program_on New s.revision) space o kind value is.running symbolic;
       side = is.side;
       lined = is.lined;
@@ -150,7 +151,7 @@ idle_given : (o now : Symbolic) (kind : DecidedKind) (value : Bool) (bound : ℕ
 idle_given o now kind value bound same below =
     subst (λ (b : Symbolic). (b.asked ≡ None) × (b.place.cycle < bound)) (sym same) (refl, below)
 
-ready_by : (s : Scene) (old new : Course) (kind : DecidedKind) (term : ℕ) (value : Bool) (before after : Option Symbolic)
+ready_by : (s : RevisedBlock) (old new : Course) (kind : DecidedKind) (term : ℕ) (value : Bool) (before after : Option Symbolic)
     → new.space ≡ old.space → new.elements.items ≡ old.elements.items → WaitsIn s old before kind term
     → IsGiven value old.before new.before before after → IsReadyIn s new after
 ready_by s old new kind term value None after space elements waits given =
@@ -182,7 +183,7 @@ bits_make_ready s old new kind term value waits to =
 -- ---- on its way
 
 -- through the old segment
-on_old_given : (s : Scene) (space : Space) (before elements : List ℕ) (o : Symbolic) (bits : List Decided)
+on_old_given : (s : RevisedBlock) (space : Space) (before elements : List ℕ) (o : Symbolic) (bits : List Decided)
     (path next : Function) (kind : DecidedKind) (term : ℕ) (value : Bool)
     → AsksInOld s.revision s.block space before elements o bits path kind term
     → HasDecided s.revision s.block (ground_in space before elements) bits path next kind term value
@@ -197,7 +198,7 @@ on_old_given s space before elements o bits path next kind term value asks has =
 }
 
 -- through the new one
-on_new_given : (s : Scene) (space : Space) (before elements : List ℕ) (b : Behind) (o : Symbolic) (bits : List Decided)
+on_new_given : (s : RevisedBlock) (space : Space) (before elements : List ℕ) (b : Behind) (o : Symbolic) (bits : List Decided)
     (path next : Function) (kind : DecidedKind) (term : ℕ) (value : Bool)
     → AsksInNew s.revision s.block space before elements b o bits path kind term
     → HasDecided s.revision s.block (ground_in space before elements) bits path next kind term value
@@ -218,7 +219,7 @@ on_new_given s space before elements b o bits path next kind term value asks has
       listed = λ idle. asks.left value;
     }
 
-on_by : (s : Scene) (before : List ℕ) (bits : List Decided) (path next : Function) (old new : Course)
+on_by : (s : RevisedBlock) (before : List ℕ) (bits : List Decided) (path next : Function) (old new : Course)
     (kind : DecidedKind) (term : ℕ) (value : Bool) (there after : Option Symbolic) → new.space ≡ old.space
     → new.elements.items ≡ old.elements.items → WaitsIn s old there kind term
     → WaitsOnCourse s before bits path old there kind term → IsGiven value old.before new.before there after

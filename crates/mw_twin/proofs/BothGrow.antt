@@ -20,7 +20,7 @@ use Rattle.mw_term.specs.declared.kinds.WordKind.TheVariants.{BesideLine, Probe}
 use Rattle.mw_term.specs.declared.side.Side.{Side as MemorySide}
 use Rattle.mw_term.specs.declared.side.Side.TheVariants.{Board, Machine}
 use Rattle.mw_twin.specs.Origins.{IsGround, ground_in, line_for}
-use Rattle.mw_twin.specs.Scenes.{Scene}
+use Rattle.mw_twin.specs.RevisedBlocks.{RevisedBlock}
 use Rattle.mw_twin.proofs.Growing.{GoesTo, other, others_stay}
 
 -- ---- kinds that no run makes
@@ -106,14 +106,14 @@ both_sides New board space own others New = own
 -- ---- the ground
 
 -- the line of the first cycle has one bit
-pub line_wide : (s : Scene) (space : Space) (before after : List ℕ)
+pub line_wide : (s : RevisedBlock) (space : Space) (before after : List ℕ)
     → IsGround s.revision.board s.block (ground_in space before after) → (side : Side) (term : ℕ)
     → line_for side (ground_in space before after) ≡ Some term → IsOfWidth space.terms 1 term
 line_wide s space before after ground Old term is = absurd cc
 line_wide s space before after ground New term is = (ground.variables Old).1.widths LineOf 0 term is
 
 -- the board of one of both programs went on
-pub goes_to : (side : Side) (s : Scene) (old new : Space) (before after : List ℕ) (from : Progress)
+pub goes_to : (side : Side) (s : RevisedBlock) (old new : Space) (before after : List ℕ) (from : Progress)
     → from.side ≡ memory_side side
     → GoesOn (IsRunKind from) old.terms new.terms old.words new.words old.memory new.memory → HaveOwnKinds new.words
     → IsSpaceOf s.revision.board new.terms new.words new.memory → AreThere (memory_side side) s.revision.board new

@@ -20,7 +20,7 @@ use Rattle.mw_twin.specs.declared.course.Course.{Course}
 use Rattle.mw_twin.specs.OnTwins.{Behind, HasMetOld, IsOnNew, IsOnOld}
 use Rattle.mw_twin.specs.Programs.{program_on}
 use Rattle.mw_twin.specs.Ready.{IsInNew, IsInOld}
-use Rattle.mw_twin.specs.Scenes.{Scene}
+use Rattle.mw_twin.specs.RevisedBlocks.{RevisedBlock}
 
 -- there is no new board before
 none_before : (after : Option Symbolic) → is_some after ≡ false → after ≡ None
@@ -28,17 +28,17 @@ none_before None is = refl
 none_before (Some o) is = absurd cc
 
 -- the old segment goes on, on the paths through what was there, where the new board's elements have these terms
-abbrev pub GoesWith : Scene → (old : Course) → (elements : List ℕ) → Space → Symbolic → Came → Type 0
+abbrev pub GoesWith : RevisedBlock → (old : Course) → (elements : List ℕ) → Space → Symbolic → Came → Type 0
 GoesWith s old elements space o came = (own : List ℕ) (bits : List Decided) (path : Function)
     → IsOnOld s.revision s.block old.space own elements old.before bits path
     → ComesInOld s space own elements o bits path came
 
 -- the same for a course's own terms
-abbrev pub GoesInOld : Scene → (old : Course) → Space → Symbolic → Came → Type 0
+abbrev pub GoesInOld : RevisedBlock → (old : Course) → Space → Symbolic → Came → Type 0
 GoesInOld s old space o came = GoesWith s old old.elements.items space o came
 
 -- behind it the new segment begins, on each path on which it has ended at a boundary
-abbrev pub BeginsWith : Scene → (elements : List ℕ) → Space → (o after : Symbolic) → Type 0
+abbrev pub BeginsWith : RevisedBlock → (elements : List ℕ) → Space → (o after : Symbolic) → Type 0
 BeginsWith s elements space o after = (own : List ℕ) (bits : List Decided) (path : Function)
     → HasMetOld s.revision s.block space own elements o bits path
     → (b : Behind) × (b.board ≡ o) × IsOnNew s.revision s.block space own elements b after bits path
@@ -48,7 +48,7 @@ abbrev pub gone_on : Course → Space → Symbolic → Course
 gone_on old space o = record { space = space; before = o; elements = old.elements; after = old.after }
 
 -- it waits for a bit
-pub asks_on : (s : Scene) (old : Course) (space : Space) (o : Symbolic) (to : Came) (kind : DecidedKind) (term : ℕ)
+pub asks_on : (s : RevisedBlock) (old : Course) (space : Space) (o : Symbolic) (to : Came) (kind : DecidedKind) (term : ℕ)
     → to ≡ Asks kind term → is_some old.after ≡ false → IsInOld s space o old.elements.items
     → HasCome (program_on Old s.revision) s.block.bound space o to → GoesInOld s old space o to
     → WaitsIn s (gone_on old space o) old.after kind term
@@ -64,7 +64,7 @@ asks_on s old space o to kind term is none in_old come goes =
     )
 
 -- it is late
-pub late_on : (s : Scene) (old : Course) (space : Space) (o : Symbolic) (to : Came) → to ≡ Late
+pub late_on : (s : RevisedBlock) (old : Course) (space : Space) (o : Symbolic) (to : Came) → to ≡ Late
     → is_some old.after ≡ false → IsInOld s space o old.elements.items
     → HasCome (program_on Old s.revision) s.block.bound space o to → GoesInOld s old space o to
     → HasRun (gone_on old space o)
@@ -76,7 +76,7 @@ late_on s old space o to is none in_old come goes =
     × ((before : List ℕ) (bits : List Decided) (path : Function) → IsOnCourse s before bits path old after
     → HasMetCase s before bits path (gone_on old space o) after)) (sym (none_before old.after none)) (
       record {
-        few = omega (arith, in_old.reads, late.2, in_old.scene.block_is.most);
+        few = omega (arith, in_old.reads, late.2, in_old.revised.block_is.most);
         fresh = in_old.fresh;
       },
       λ before bits path on.
@@ -88,7 +88,7 @@ abbrev pub begun_on : Course → Space → (o after : Symbolic) → Course
 begun_on old space o after = record { space = space; before = o; elements = old.elements; after = Some after }
 
 -- the new segment begins
-pub reached_on : (s : Scene) (old : Course) (space : Space) (o after : Symbolic) (to : Came) → to ≡ Reached
+pub reached_on : (s : RevisedBlock) (old : Course) (space : Space) (o after : Symbolic) (to : Came) → to ≡ Reached
     → is_some old.after ≡ false → GoesInOld s old space o to → IsInNew s space o after → after.asked ≡ None
     → after.place.cycle < s.block.bound → BeginsWith s old.elements.items space o after
     → (next : Symbolic) × (Some after ≡ Some next) × IsReadyIn s (begun_on old space o after) (Some next)
@@ -108,7 +108,7 @@ reached_on s old space o after to is none goes in_new idle below begins = (
 -- ---- the new segment
 
 -- the new segment goes on, on the paths through what was there
-abbrev pub GoesInNew : Scene → (old : Course) → (before : Symbolic) → Space → (after : Symbolic) → Came → Type 0
+abbrev pub GoesInNew : RevisedBlock → (old : Course) → (before : Symbolic) → Space → (after : Symbolic) → Came → Type 0
 GoesInNew s old before space after came =
     (own elements : List ℕ) (b : Behind) (bits : List Decided) (path : Function) → b.board ≡ old.before
     → IsOnNew s.revision s.block old.space own elements b before bits path
@@ -120,7 +120,7 @@ further_on old space after =
     record { space = space; before = old.before; elements = old.elements; after = Some after }
 
 -- it waits for a bit
-pub new_asks_on : (s : Scene) (old : Course) (before : Symbolic) (space : Space) (after : Symbolic) (to : Came)
+pub new_asks_on : (s : RevisedBlock) (old : Course) (before : Symbolic) (space : Space) (after : Symbolic) (to : Came)
     (kind : DecidedKind) (term : ℕ) → to ≡ Asks kind term → old.after ≡ Some before
     → GoesInNew s old before space after to → GoesOnCourse s old (further_on old space after) (Ask kind term)
 new_asks_on s old before space after to kind term is there goes own bits path on =
@@ -132,7 +132,7 @@ new_asks_on s old before space after to kind term is there goes own bits path on
     )
 
 -- it has ended at a boundary
-pub new_reached_on : (s : Scene) (old : Course) (before : Symbolic) (space : Space) (after : Symbolic) (to : Came)
+pub new_reached_on : (s : RevisedBlock) (old : Course) (before : Symbolic) (space : Space) (after : Symbolic) (to : Came)
     → to ≡ Reached → old.after ≡ Some before → GoesInNew s old before space after to
     → GoesOnCourse s old (further_on old space after) Finished
 new_reached_on s old before space after to is there goes own bits path on =
@@ -145,7 +145,7 @@ new_reached_on s old before space after to is there goes own bits path on =
     )
 
 -- it is late
-pub new_late_on : (s : Scene) (old : Course) (before : Symbolic) (space : Space) (after : Symbolic) (to : Came)
+pub new_late_on : (s : RevisedBlock) (old : Course) (before : Symbolic) (space : Space) (after : Symbolic) (to : Came)
     → to ≡ Late → old.after ≡ Some before → GoesInNew s old before space after to
     → GoesOnCourse s old (further_on old space after) Finished
 new_late_on s old before space after to is there goes own bits path on =
@@ -159,7 +159,7 @@ new_late_on s old before space after to is there goes own bits path on =
 
 -- ---- behind the old segment
 
-pub come_on : (s : Scene) (old new : Course) (o : Option Turn) → o ≡ None → HaveCome s old new o
+pub come_on : (s : RevisedBlock) (old new : Course) (o : Option Turn) → o ≡ None → HaveCome s old new o
     → (before : List ℕ) (bits : List Decided) (path : Function) → IsOnCourse s before bits path old old.after
     → IsOnCourse s before bits path new new.after
 come_on s old new o none come before bits path on =

@@ -34,7 +34,7 @@ use Rattle.mw_twin.specs.OnTwins.{Behind, HasMetOld, IsOnNew}
 use Rattle.mw_twin.specs.Origins.{ground_in, origin_on}
 use Rattle.mw_twin.specs.Programs.{program_on}
 use Rattle.mw_twin.specs.Ready.{IsInNew, IsInOld}
-use Rattle.mw_twin.specs.Scenes.{Scene}
+use Rattle.mw_twin.specs.RevisedBlocks.{RevisedBlock}
 use Rattle.mw_twin.proofs.BothGrow.{line_wide, own_variables}
 
 and_true : (b : Bool) → b ≡ (b && true)
@@ -44,7 +44,7 @@ and_true false = refl
 -- ---- where it stands
 
 -- the terms of its elements are its parts
-pub parts_are : (s : Scene) (space : Space) (terms : List ℕ) (o : Symbolic) → length terms ≡ element_count s.revision.board
+pub parts_are : (s : RevisedBlock) (space : Space) (terms : List ℕ) (o : Symbolic) → length terms ≡ element_count s.revision.board
     → AreParts s.revision.board space.terms o.place.parts → HasElements s.revision.board terms o.place.parts
     → parts_with s.revision.board terms ≡ o.place.parts
 parts_are s space terms o count are has =
@@ -52,7 +52,7 @@ parts_are s space terms o count are has =
     parts_first board space.terms terms o (omega (arith, count)) are
     (λ n below. has n below ∙ sym (get_or-take (element_count board) terms n 0 below))
 
-standing_begun : (s : Scene) (space : Space) (terms : List ℕ) (line : ℕ) (o : Symbolic)
+standing_begun : (s : RevisedBlock) (space : Space) (terms : List ℕ) (line : ℕ) (o : Symbolic)
     → length terms ≡ element_count s.revision.board → AreParts s.revision.board space.terms o.place.parts
     → HasElements s.revision.board terms o.place.parts
     → IsBeginning Machine s.block.after s.block.sp (Some line) o → space.memory.machine ≡ []
@@ -66,7 +66,7 @@ standing_begun s space terms line o count are has new unwritten =
 -- ---- what is so of it
 
 -- it is in its segment
-pub in_new_begun : (s : Scene) (space : Space) (old o : Symbolic) (after : List ℕ) (line : ℕ)
+pub in_new_begun : (s : RevisedBlock) (space : Space) (old o : Symbolic) (after : List ℕ) (line : ℕ)
     → IsInOld s space old after → HasCome (program_on Old s.revision) s.block.bound space old Reached
     → term_of space.words (Line 0) ≡ Some line → IsBeginning Machine s.block.after s.block.sp (Some line) o
     → (s.block.after < 2 ^ 12 → s.block.sp ≤ depth_of s.revision.board
@@ -83,16 +83,16 @@ in_new_begun s space old o after line is come there new symbolic =
     let terms = (elements_have_terms board s.revision.before space.terms space.words space.memory old).0
     is.running.symbolic in
     record {
-      scene = is.scene;
+      revised = is.revised;
       running = record {
         space_of = is.running.space_of;
-        symbolic = symbolic is.scene.block_is.after is.scene.block_is.sp is.wide wide;
+        symbolic = symbolic is.revised.block_is.after is.revised.block_is.sp is.wide wide;
         taken = omega (arith, new.taken, new.cycle);
         lines = λ same. (let both : Machine ≡ Board = sym new.side_is ∙ same in absurd cc);
       };
       side = new.side_is;
       lined = λ first. (line, new.line_is);
-      reads = omega (arith, is.reads, before, none, new.cycle, come.3, is.scene.block_is.most);
+      reads = omega (arith, is.reads, before, none, new.cycle, come.3, is.revised.block_is.most);
       fresh = is.fresh;
       others = has;
       first = lines.later come.2;
@@ -102,7 +102,7 @@ in_new_begun s space old o after line is come there new symbolic =
     }
 
 -- and its segment begins on each path on which the old one has ended
-pub on_new_begun : (s : Scene) (space : Space) (old o : Symbolic) (before after : List ℕ) (line : ℕ)
+pub on_new_begun : (s : RevisedBlock) (space : Space) (old o : Symbolic) (before after : List ℕ) (line : ℕ)
     (bits : List Decided) (path : Function) → IsInOld s space old after → IsInNew s space old o
     → term_of space.words (Line 0) ≡ Some line → HasElements s.revision.board after o.place.parts
     → IsBeginning Machine s.block.after s.block.sp (Some line) o
@@ -141,6 +141,6 @@ on_new_begun s space old o before after line bits path is now there has new met 
             ∙ ap (λ (k : ℕ). segment_words revision.board revision.after (addresses_of New revision) k
             (standing_on space o) further (list_of_space space)) (sym all)
             ∙ segments_begin program block.bound space o new.reading
-            (omega (arith, new.cycle, is.scene.block_is.some)) further;
+            (omega (arith, new.cycle, is.revised.block_is.some)) further;
       },
     )

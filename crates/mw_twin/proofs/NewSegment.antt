@@ -35,7 +35,7 @@ use Rattle.mw_twin.specs.OnTwins.{Behind, IsBehind, IsOnNew, behind_words, new_w
 use Rattle.mw_twin.specs.Origins.{ground_in, origin_on}
 use Rattle.mw_twin.specs.Programs.{program_on}
 use Rattle.mw_twin.specs.Ready.{IsInNew}
-use Rattle.mw_twin.specs.Scenes.{Scene}
+use Rattle.mw_twin.specs.RevisedBlocks.{RevisedBlock}
 use Rattle.mw_twin.proofs.BothGrow.{line_wide, no_probe, own_variables}
 use Rattle.mw_twin.proofs.CaseWords.{new_asks, new_passes, new_reaches, new_terms}
 use Rattle.mw_twin.proofs.Growing.{GoesTo, others_stay, way_later}
@@ -60,7 +60,7 @@ lined_still o now later line lined none =
     (there.0, line (none ∙ sym before) ∙ there.1)
 
 -- the new program's board is in its segment still
-pub in_new_still : (s : Scene) (old new : Space) (before o now : Symbolic) → IsInNew s old before o
+pub in_new_still : (s : RevisedBlock) (old new : Space) (before o now : Symbolic) → IsInNew s old before o
     → IsRunning (program_on New s.revision) new now
     → GoesOn (IsRunKind o.place) old.terms new.terms old.words new.words old.memory new.memory
     → now.place.side ≡ o.place.side → (now.place.cycle ≡ o.place.cycle → now.place.line ≡ o.place.line)
@@ -72,7 +72,7 @@ in_new_still s old new before o now is running goes side line later reads =
     let board = s.revision.board in
     let own = own_variables Machine board s.revision.after new now running.symbolic (side ∙ is.side) in
     record {
-      scene = is.scene;
+      revised = is.revised;
       running = running;
       side = side ∙ is.side;
       lined = lined_still o now later line is.lined;
@@ -104,7 +104,7 @@ listed_still old new before l further list side writes is =
     is ∙ ap (λ (ws : List Held). ended_by reaches (standing_in before ws) further list) same
 
 -- the old segment has ended still
-pub behind_still : (s : Scene) (old new : Space) (before after : List ℕ) (b : Behind) (o : Symbolic)
+pub behind_still : (s : RevisedBlock) (old new : Space) (before after : List ℕ) (b : Behind) (o : Symbolic)
     → IsInNew s old b.board o
     → GoesOn (IsRunKind o.place) old.terms new.terms old.words new.words old.memory new.memory
     → writes_of new.memory Board ≡ writes_of old.memory Board
@@ -121,7 +121,7 @@ behind_still s old new before after b o is goes writes behind = record {
 -- ---- what it begins with
 
 -- it begins with the same, as the line of its first cycle is there already
-same_origin : (s : Scene) (old new : Space) (before after : List ℕ) (more : List Word) (line : ℕ)
+same_origin : (s : RevisedBlock) (old new : Space) (before after : List ℕ) (more : List Word) (line : ℕ)
     → new.words ≡ old.words ++ more → term_of old.words (Line 0) ≡ Some line
     → origin_on New s.block (ground_in old before after) ≡ origin_on New s.block (ground_in new before after)
 same_origin s old new before after more line words there =
@@ -129,20 +129,20 @@ same_origin s old new before after more line words there =
     ap (λ ws. term_of ws (Line 0)) words ∙ found_stays old.words more (Line 0) line there in
     ap (λ (l : Option ℕ). origin_with s after l) (there ∙ sym now)
   where
-    origin_with : Scene → List ℕ → Option ℕ → Origin
+    origin_with : RevisedBlock → List ℕ → Option ℕ → Origin
     origin_with s after l =
         record { side = Machine; terms = after; at = s.block.after; sp = s.block.sp; line = l }
 
 -- ---- where it comes to
 
 -- the words behind the old segment are those of the new one, over the new board's terms
-pub words_behind : (s : Scene) (after : List ℕ) (b : Behind) (values : List Bool) (segment : Segment)
+pub words_behind : (s : RevisedBlock) (after : List ℕ) (b : Behind) (values : List Bool) (segment : Segment)
     → new_terms s.revision s.block ≡ after → behind_words s.revision s.block after b values ≡ segment
     → new_words s.revision s.block (new_terms s.revision s.block) b.list values ≡ segment
 words_behind s after b values segment begins is =
     ap (λ ts. new_words s.revision s.block ts b.list values) begins ∙ is
 
-pub comes_in_new : (s : Scene) (old new : Space) (before after : List ℕ) (b : Behind) (o now : Symbolic)
+pub comes_in_new : (s : RevisedBlock) (old new : Space) (before after : List ℕ) (b : Behind) (o now : Symbolic)
     (bits : List Decided) (path : Function) (came : Came)
     → GoesTo s.revision.board (ground_in old before after) (ground_in new before after)
     → IsBehind s.revision s.block new before after b
@@ -242,7 +242,7 @@ comes_in_new s old new before after b o now bits path Late to behind come comes 
 -- ---- as it goes on
 
 -- what it comes to on the paths through what was there is so over what is there now
-pub comes_on_new : (s : Scene) (old new : Space) (before after : List ℕ) (o now : Symbolic) (came : Came)
+pub comes_on_new : (s : RevisedBlock) (old new : Space) (before after : List ℕ) (o now : Symbolic) (came : Came)
     (more : List Word) (line : ℕ) → new.words ≡ old.words ++ more → term_of old.words (Line 0) ≡ Some line
     → ((b : Origin) (bits : List Decided) (path : Function)
     → IsOnSegment (program_on New s.revision) old b o bits path

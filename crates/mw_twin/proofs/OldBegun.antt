@@ -35,7 +35,7 @@ use Rattle.mw_twin.specs.OnTwins.{IsOnOld}
 use Rattle.mw_twin.specs.Origins.{IsElementKind, IsGround, ground_in, origin_on}
 use Rattle.mw_twin.specs.Programs.{program_on}
 use Rattle.mw_twin.specs.Ready.{IsInOld}
-use Rattle.mw_twin.specs.Scenes.{IsScene, Scene}
+use Rattle.mw_twin.specs.RevisedBlocks.{IsRevisedBlock, RevisedBlock}
 use Rattle.mw_twin.specs.TwinPaths.{IsOnWay}
 use Rattle.mw_twin.proofs.ElementGround.{have_variables}
 use Rattle.mw_twin.proofs.NewBegun.{parts_are}
@@ -48,32 +48,32 @@ no_probe space kinds =
     (λ is. (let same : Probe ≡ Element is.0 = is.1 in absurd cc))
 
 -- a board may go on over terms for its elements, where there is no variable of a cycle
-abbrev pub MayGoOn : Scene → Space → (elements : List ℕ) → Symbolic → Type 0
+abbrev pub MayGoOn : RevisedBlock → Space → (elements : List ℕ) → Symbolic → Type 0
 MayGoOn s space elements o = s.block.before < 2 ^ 12 → s.block.sp ≤ depth_of s.revision.board
     → AreElements s.revision.board space.terms elements → HaveWidths Board s.revision.board space.terms space.words
     → AreNoLater Board 0 space.words
     → IsSymbolic s.revision.board s.revision.before space.terms space.words space.memory o
 
 -- so it may go on
-pub symbolic_begun : (s : Scene) (space : Space) (o : Symbolic) (before after elements : List ℕ) → IsScene s
+pub symbolic_begun : (s : RevisedBlock) (space : Space) (o : Symbolic) (before after elements : List ℕ) → IsRevisedBlock s
     → IsGround s.revision.board s.block (ground_in space before after) → HaveKinds IsElementKind space.words
     → elements ≡ before → MayGoOn s space elements o
     → IsSymbolic s.revision.board s.revision.before space.terms space.words space.memory o
-symbolic_begun s space o before after elements scene ground kinds same may =
+symbolic_begun s space o before after elements revised ground kinds same may =
     let has = have_variables Board s.revision.board space.terms space.words kinds in
-    may scene.block_is.before scene.block_is.sp
+    may revised.block_is.before revised.block_is.sp
     (subst (AreElements s.revision.board space.terms) (sym same) (ground.wide Old)) has.widths has.none
 
 -- the old program's board is in its segment
-pub in_old_begun : (s : Scene) (space : Space) (o : Symbolic) (before after : List ℕ) → IsScene s
+pub in_old_begun : (s : RevisedBlock) (space : Space) (o : Symbolic) (before after : List ℕ) → IsRevisedBlock s
     → IsGround s.revision.board s.block (ground_in space before after) → HaveKinds IsElementKind space.words
     → space.memory.reads ≡ [] → space.memory.machine ≡ [] → length after ≡ element_count s.revision.board
     → IsBeginning Board s.block.before s.block.sp None o
     → IsSymbolic s.revision.board s.revision.before space.terms space.words space.memory o → IsInOld s space o after
-in_old_begun s space o before after scene ground kinds unread unwritten count new symbolic =
+in_old_begun s space o before after revised ground kinds unread unwritten count new symbolic =
     let none : reads_by o.reading ≡ 1 = ap reads_by new.reading in
     record {
-      scene = scene;
+      revised = revised;
       running = record {
         space_of = ground.space;
         symbolic = symbolic;
@@ -94,13 +94,13 @@ in_old_begun s space o before after scene ground kinds unread unwritten count ne
     }
 
 -- every twin start is on the path of no bit
-way_begun : (s : Scene) (space : Space) (before after : List ℕ) (path : Function) → IsScene s
+way_begun : (s : RevisedBlock) (space : Space) (before after : List ℕ) (path : Function) → IsRevisedBlock s
     → IsGround s.revision.board s.block (ground_in space before after) → Agree path always
     → IsOnWay s.revision s.block (ground_in space before after) [] path
 unfolding path_along
-way_begun s space before after path scene ground everywhere =
-    let starts = twin_starts_are_there s.revision s.block (ground_in space before after) scene.revision_is scene.block_of
-    scene.block_is ground in
+way_begun s space before after path revised ground everywhere =
+    let starts = twin_starts_are_there s.revision s.block (ground_in space before after) revised.revision_is revised.block_of
+    revised.block_is ground in
     let some = starts.there (λ n. 0) in
     record {
       stands = ground;
@@ -117,7 +117,7 @@ way_begun s space before after path scene ground everywhere =
       };
     }
 
-standing_begun : (s : Scene) (space : Space) (terms : List ℕ) (o : Symbolic)
+standing_begun : (s : RevisedBlock) (space : Space) (terms : List ℕ) (o : Symbolic)
     → length terms ≡ element_count s.revision.board → AreParts s.revision.board space.terms o.place.parts
     → HasElements s.revision.board terms o.place.parts → IsBeginning Board s.block.before s.block.sp None o
     → space.memory.board ≡ [] → twin_words.standing_on Old s.revision s.block terms None ≡ standing_on space o
@@ -132,14 +132,14 @@ abbrev beginning : Space → (before after : List ℕ) → TwinBeginning
 beginning space before after =
     record { list = list_of_space space; old_terms = before; new_terms = after }
 
-pub on_old_begun : (s : Scene) (space : Space) (o : Symbolic) (before after : List ℕ) (path : Function) → IsScene s
+pub on_old_begun : (s : RevisedBlock) (space : Space) (o : Symbolic) (before after : List ℕ) (path : Function) → IsRevisedBlock s
     → IsGround s.revision.board s.block (ground_in space before after) → space.memory.board ≡ []
     → space.memory.machine ≡ [] → length before ≡ element_count s.revision.board
     → twin_start_words s.revision.board s.block.lines ≡ beginning space before after
     → HasElements s.revision.board before o.place.parts → IsBeginning Board s.block.before s.block.sp None o
     → IsSymbolic s.revision.board s.revision.before space.terms space.words space.memory o → Agree path always
     → IsOnOld s.revision s.block space before after o [] path
-on_old_begun s space o before after path scene ground unwritten none count listed has new symbolic everywhere =
+on_old_begun s space o before after path revised ground unwritten none count listed has new symbolic everywhere =
     let revision = s.revision in
     let block = s.block in
     let program = program_on Old revision in
@@ -149,7 +149,7 @@ on_old_begun s space o before after path scene ground unwritten none count liste
     let standing = standing_begun s space before o count are has new unwritten in
     let all : block.bound - o.place.cycle ≡ block.bound = omega (arith, new.cycle) in
     record {
-      on = way_begun s space before after path scene ground everywhere;
+      on = way_begun s space before after path revised ground everywhere;
       run = segments_begin_on_paths program space origin o path
           (record { elements = ground.wide Old; line = λ term is. absurd cc }) has new unwritten everywhere;
       begins = ap (λ (b : TwinBeginning). b.new_terms) listed;
@@ -162,5 +162,5 @@ on_old_begun s space o before after path scene ground unwritten none count liste
           ∙ ap (λ (k : ℕ). segment_words revision.board revision.before (addresses_of Old revision) k
           (standing_on space o) further (list_of_space space)) (sym all)
           ∙ segments_begin program block.bound space o new.reading
-          (omega (arith, new.cycle, scene.block_is.some)) further;
+          (omega (arith, new.cycle, revised.block_is.some)) further;
     }

@@ -25,7 +25,7 @@ use Rattle.mw_twin.specs.OnTwins.{IsOnOld, old_words}
 use Rattle.mw_twin.specs.Origins.{ground_in, origin_on}
 use Rattle.mw_twin.specs.Programs.{program_on}
 use Rattle.mw_twin.specs.Ready.{IsInOld}
-use Rattle.mw_twin.specs.Scenes.{Scene}
+use Rattle.mw_twin.specs.RevisedBlocks.{RevisedBlock}
 use Rattle.mw_twin.proofs.BothGrow.{line_wide, no_probe, own_variables}
 use Rattle.mw_twin.proofs.CaseWords.{old_asks, old_passes, values_behind}
 use Rattle.mw_twin.proofs.Growing.{GoesTo, others_stay, way_later}
@@ -39,7 +39,7 @@ unwritten_still old new side same writes none =
     subst (λ (s : Side). writes_of new.memory (other_side s) ≡ writes_of old.memory (other_side s)) same writes ∙ none
 
 -- the old program's board is in its segment still
-pub in_old_still : (s : Scene) (old new : Space) (o now : Symbolic) (after : List ℕ) → IsInOld s old o after
+pub in_old_still : (s : RevisedBlock) (old new : Space) (o now : Symbolic) (after : List ℕ) → IsInOld s old o after
     → IsRunning (program_on Old s.revision) new now
     → GoesOn (IsRunKind o.place) old.terms new.terms old.words new.words old.memory new.memory
     → now.place.side ≡ o.place.side
@@ -51,7 +51,7 @@ in_old_still s old new o now after is running goes side writes later reads =
     let board = s.revision.board in
     let own = own_variables Board board s.revision.before new now running.symbolic (side ∙ is.side) in
     record {
-      scene = is.scene;
+      revised = is.revised;
       running = running;
       side = side ∙ is.side;
       reads = omega (arith, is.reads, reads, later);
@@ -70,7 +70,7 @@ pub along_with : (program_along : List Bool → Type 0) (bits : List Decided) (d
 along_with program_along bits d along = subst program_along (sym (values_behind bits (d ∷ []))) along
 
 -- where it comes to is so of the cases on its path
-pub comes_in_old : (s : Scene) (old new : Space) (before after : List ℕ) (o now : Symbolic) (bits : List Decided)
+pub comes_in_old : (s : RevisedBlock) (old new : Space) (before after : List ℕ) (o now : Symbolic) (bits : List Decided)
     (path : Function) (came : Came)
     → GoesTo s.revision.board (ground_in old before after) (ground_in new before after) → new.memory.machine ≡ []
     → HasCome (program_on Old s.revision) s.block.bound new now came

@@ -7,10 +7,10 @@ use Rattle.mw_symboard.specs.Turns.{Symbolic}
 use Rattle.mw_term.specs.declared.decided.Decided.{Decided}
 use Rattle.mw_term.specs.Functions.{Function}
 use Rattle.mw_twin.specs.OnTwins.{AsksInNew, AsksInOld, Behind, HasMetNew, HasMetOld, IsLateOld}
-use Rattle.mw_twin.specs.Scenes.{Scene}
+use Rattle.mw_twin.specs.RevisedBlocks.{RevisedBlock}
 
 -- the old segment waits for the next bit of the cases on a path, has ended at a boundary, or is late
-abbrev pub ComesInOld : Scene → Space → (before after : List ℕ) → Symbolic → (bits : List Decided) → (path : Function)
+abbrev pub ComesInOld : RevisedBlock → Space → (before after : List ℕ) → Symbolic → (bits : List Decided) → (path : Function)
     → Came → Type 0
 ComesInOld s space before after o bits path (came.Asks kind term) =
     AsksInOld s.revision s.block space before after o bits path kind term
@@ -19,7 +19,7 @@ ComesInOld s space before after o bits path came.Reached =
 ComesInOld s space before after o bits path came.Late = IsLateOld s.revision s.block space before after o bits path
 
 -- the new segment waits for the next bit of the cases on a path, or has ended, at a boundary or late
-abbrev pub ComesInNew : Scene → Space → (before after : List ℕ) → Behind → Symbolic → (bits : List Decided)
+abbrev pub ComesInNew : RevisedBlock → Space → (before after : List ℕ) → Behind → Symbolic → (bits : List Decided)
     → (path : Function) → Came → Type 0
 ComesInNew s space before after b o bits path (came.Asks kind term) =
     AsksInNew s.revision s.block space before after b o bits path kind term

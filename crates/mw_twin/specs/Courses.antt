@@ -17,29 +17,30 @@ use Rattle.mw_term.specs.declared.word.Word.{Word}
 use Rattle.mw_term.specs.Functions.{Function}
 use Rattle.mw_term.specs.Table.{Table}
 use Rattle.mw_term.specs.WordList.{term_of}
+use Rattle.mw_course.specs.Courses.{HasTaken}
 use Rattle.mw_twin.specs.declared.course.Course.{Course}
 use Rattle.mw_twin.specs.Origins.{ground_in}
 use Rattle.mw_twin.specs.OnTwins.{AsksInNew, AsksInOld, Behind, HasMetNew, IsLateOld, IsOnNew, IsOnOld}
 use Rattle.mw_twin.specs.Programs.{program_on}
 use Rattle.mw_twin.specs.Ready.{IsInNew, IsInOld}
-use Rattle.mw_twin.specs.Scenes.{Scene}
+use Rattle.mw_twin.specs.RevisedBlocks.{RevisedBlock}
 use Rattle.mw_twin.specs.TwinPaths.{HasDecided}
 
 -- ---- where it stands
 
 -- it waits for no bit: it is in a cycle of the old segment, or of the new one
-abbrev pub IsReadyIn : Scene → Course → Option Symbolic → Type 0
+abbrev pub IsReadyIn : RevisedBlock → Course → Option Symbolic → Type 0
 IsReadyIn s course None = IsInOld s course.space course.before course.elements.items
     × (course.before.asked ≡ None) × (course.before.place.cycle < s.block.bound)
 IsReadyIn s course (Some after) = IsInNew s course.space course.before after
     × (after.asked ≡ None) × (after.place.cycle < s.block.bound)
 
 -- it waits for no bit, in whichever segment it is
-abbrev pub IsReady : Scene → Course → Type 0
+abbrev pub IsReady : RevisedBlock → Course → Type 0
 IsReady s course = IsReadyIn s course course.after
 
 -- it waits for a bit of this kind, by this term
-abbrev pub WaitsIn : Scene → Course → Option Symbolic → DecidedKind → (term : ℕ) → Type 0
+abbrev pub WaitsIn : RevisedBlock → Course → Option Symbolic → DecidedKind → (term : ℕ) → Type 0
 WaitsIn s course None kind term = IsInOld s course.space course.before course.elements.items
     × HasCome (program_on Old s.revision) s.block.bound course.space course.before (Asks kind term)
 WaitsIn s course (Some after) kind term = IsInNew s course.space course.before after
@@ -51,14 +52,14 @@ pub record HasRun (course : Course) : Type 0 where
   pub fresh : term_of course.space.words Probe ≡ None
 
 -- after a turn it waits for a bit, or has ended
-abbrev pub IsTurned : Scene → Course → Turn → Type 0
+abbrev pub IsTurned : RevisedBlock → Course → Turn → Type 0
 IsTurned s course (Ask kind term) = WaitsIn s course course.after kind term
 IsTurned s course Finished = HasRun course
 
 -- ---- which cases it is on, where the old board's elements began with these terms
 
 -- it is on its way through the cases that begin with these bits
-abbrev pub IsOnCourse : Scene → (before : List ℕ) → (bits : List Decided) → (path : Function) → Course
+abbrev pub IsOnCourse : RevisedBlock → (before : List ℕ) → (bits : List Decided) → (path : Function) → Course
     → Option Symbolic → Type 0
 IsOnCourse s before bits path course None =
     IsOnOld s.revision s.block course.space before course.elements.items course.before bits path
@@ -66,7 +67,7 @@ IsOnCourse s before bits path course (Some after) = (b : Behind) × (b.board ≡
     × IsOnNew s.revision s.block course.space before course.elements.items b after bits path
 
 -- and waits for the next bit of those cases
-abbrev pub WaitsOnCourse : Scene → (before : List ℕ) → (bits : List Decided) → (path : Function) → Course
+abbrev pub WaitsOnCourse : RevisedBlock → (before : List ℕ) → (bits : List Decided) → (path : Function) → Course
     → Option Symbolic → DecidedKind → (term : ℕ) → Type 0
 WaitsOnCourse s before bits path course None kind term =
     AsksInOld s.revision s.block course.space before course.elements.items course.before bits path kind term
@@ -74,7 +75,7 @@ WaitsOnCourse s before bits path course (Some after) kind term = (b : Behind) ×
     × AsksInNew s.revision s.block course.space before course.elements.items b after bits path kind term
 
 -- it has met all bits of those cases: the old segment is late, or the new one has ended
-abbrev pub HasMetCase : Scene → (before : List ℕ) → (bits : List Decided) → (path : Function) → Course
+abbrev pub HasMetCase : RevisedBlock → (before : List ℕ) → (bits : List Decided) → (path : Function) → Course
     → Option Symbolic → Type 0
 HasMetCase s before bits path course None =
     IsLateOld s.revision s.block course.space before course.elements.items course.before bits path
@@ -82,19 +83,19 @@ HasMetCase s before bits path course (Some after) = (b : Behind) × (b.board ≡
     × HasMetNew s.revision s.block course.space before course.elements.items b after bits path end
 
 -- after a turn it waits for the next bit, or has met all
-abbrev pub IsTurnedOnCourse : Scene → (before : List ℕ) → (bits : List Decided) → (path : Function) → Course → Turn
+abbrev pub IsTurnedOnCourse : RevisedBlock → (before : List ℕ) → (bits : List Decided) → (path : Function) → Course → Turn
     → Type 0
 IsTurnedOnCourse s before bits path course (Ask kind term) =
     WaitsOnCourse s before bits path course course.after kind term
 IsTurnedOnCourse s before bits path course Finished = HasMetCase s before bits path course course.after
 
 -- a turn: a course that was on its way through the cases on a path waits for their next bit, or has met all
-abbrev pub GoesOnCourse : Scene → (old new : Course) → Turn → Type 0
+abbrev pub GoesOnCourse : RevisedBlock → (old new : Course) → Turn → Type 0
 GoesOnCourse s old new turn = (before : List ℕ) (bits : List Decided) (path : Function)
     → IsOnCourse s before bits path old old.after → IsTurnedOnCourse s before bits path new turn
 
 -- behind the old segment: the new one is there, or the course waits for a bit before that, or is late
-abbrev pub HaveCome : Scene → (old new : Course) → Option Turn → Type 0
+abbrev pub HaveCome : RevisedBlock → (old new : Course) → Option Turn → Type 0
 HaveCome s old new None = (after : Symbolic) × (new.after ≡ Some after) × IsReadyIn s new (Some after)
     × ((before : List ℕ) (bits : List Decided) (path : Function) → IsOnCourse s before bits path old old.after
     → IsOnCourse s before bits path new (Some after))
@@ -106,13 +107,6 @@ HaveCome s old new (Some turn) = IsTurned s new turn × GoesOnCourse s old new t
 abbrev pub MayBeGiven : (before : Symbolic) → (after : Option Symbolic) → Type 0
 MayBeGiven before None = ((kind : DecidedKind) × (before.asked ≡ Some kind)) × (length before.place.decided < 14)
 MayBeGiven before (Some o) = ((kind : DecidedKind) × (o.asked ≡ Some kind)) × (length o.place.decided < 14)
-
--- a board has taken the bit that it waited for
-pub record HasTaken (value : Bool) (old new : Symbolic) : Type 0 where
-  pub new_is : (kind : DecidedKind) → old.asked ≡ Some kind → new ≡ decided_so old kind value
-  pub symbolic : (board : BoardParts) (store : List ℕ) (t : Table) (words : List Word) (m : Memory)
-      (kind : DecidedKind) (term : ℕ) → AsksOn board store t words m old kind term
-      → IsSymbolic board store t words m old → IsSymbolic board store t words m new
 
 -- whichever waited has taken it, and the other is as it was
 abbrev pub IsGiven : (value : Bool) → (old new : Symbolic) → (before after : Option Symbolic) → Type 0
@@ -129,19 +123,19 @@ pub record IsGivenTo (value : Bool) (course other : Course) : Type 0 where
 -- ---- the law of bits
 
 -- a bit was decided by its term: the course is on its way with one more, along the path by it
-abbrev pub HasDecidedOn : Scene → (before : List ℕ) → (bits : List Decided) → (path next : Function) → Course
+abbrev pub HasDecidedOn : RevisedBlock → (before : List ℕ) → (bits : List Decided) → (path next : Function) → Course
     → DecidedKind → (term : ℕ) → (value : Bool) → Type 0
 HasDecidedOn s before bits path next course kind term value =
     HasDecided s.revision s.block (ground_in course.space before course.elements.items) bits path next kind term value
 
 -- A course that waits for a bit is ready once it is given.
 abbrev pub BitsMakeReady : Type 0
-BitsMakeReady = (s : Scene) (old new : Course) (kind : DecidedKind) (term : ℕ) (value : Bool)
+BitsMakeReady = (s : RevisedBlock) (old new : Course) (kind : DecidedKind) (term : ℕ) (value : Bool)
     → WaitsIn s old old.after kind term → IsGivenTo value old new → IsReady s new
 
 -- And it is on its way with one bit more, along the path by it, through the cases that begin with its bits.
 abbrev pub BitsGoOnCourse : Type 0
-BitsGoOnCourse = (s : Scene) (before : List ℕ) (bits : List Decided) (path next : Function) (old new : Course)
+BitsGoOnCourse = (s : RevisedBlock) (before : List ℕ) (bits : List Decided) (path next : Function) (old new : Course)
     (kind : DecidedKind) (term : ℕ) (value : Bool) → WaitsIn s old old.after kind term
     → WaitsOnCourse s before bits path old old.after kind term → IsGivenTo value old new
     → HasDecidedOn s before bits path next old kind term value

@@ -8,5 +8,5 @@ pub mod OnTwins
 pub mod Origins
 pub mod Programs
 pub mod Ready
-pub mod Scenes
+pub mod RevisedBlocks
 pub mod TwinPaths

@@ -11,13 +11,13 @@ use Rattle.mw_term.specs.declared.kinds.WordKind.TheVariants.{Probe}
 use Rattle.mw_term.specs.declared.side.Side.TheVariants.{Board, Machine}
 use Rattle.mw_term.specs.WordList.{term_of}
 use Rattle.mw_twin.specs.Programs.{program_on}
-use Rattle.mw_twin.specs.Scenes.{IsScene, Scene}
+use Rattle.mw_twin.specs.RevisedBlocks.{IsRevisedBlock, RevisedBlock}
 
 -- The old program's board is in its segment, on the board's side of the memory. The new one hasn't begun: it has no
 -- variable and has written nothing, and there is a term for each of its elements. There is no probe, and at most one base
 -- read a cycle.
-pub record IsInOld (s : Scene) (space : Space) (o : Symbolic) (after : List ℕ) : Type 0 where
-  pub scene : IsScene s
+pub record IsInOld (s : RevisedBlock) (space : Space) (o : Symbolic) (after : List ℕ) : Type 0 where
+  pub revised : IsRevisedBlock s
   pub running : IsRunning (program_on Old s.revision) space o
   pub side : o.place.side ≡ Board
   pub reads : length space.memory.reads + reads_to_come o ≤ o.place.cycle + 1
@@ -30,8 +30,8 @@ pub record IsInOld (s : Scene) (space : Space) (o : Symbolic) (after : List ℕ)
 -- The new program's board is in its segment, on the machine's side of the memory, behind that of the old one, which has
 -- terms for its elements and its events. The line of its first cycle was there before. There is no probe, and behind
 -- the 501 base reads that an old segment may have made there is at most one a cycle.
-pub record IsInNew (s : Scene) (space : Space) (old o : Symbolic) : Type 0 where
-  pub scene : IsScene s
+pub record IsInNew (s : RevisedBlock) (space : Space) (old o : Symbolic) : Type 0 where
+  pub revised : IsRevisedBlock s
   pub running : IsRunning (program_on New s.revision) space o
   pub side : o.place.side ≡ Machine
   pub lined : o.place.cycle ≡ 0 → (term : ℕ) × (o.place.line ≡ Some term)

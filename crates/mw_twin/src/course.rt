@@ -19,11 +19,11 @@ ghost use Rattle.mw_term.specs.Table.{Table};
 ghost use Rattle.mw_twin.specs.Origins.{IsElementKind, IsGround, ground_in};
 ghost use Rattle.mw_twin.specs.Courses.{GoesOnCourse, HaveCome, IsGiven, IsGivenTo, IsOnCourse, IsReady, IsReadyIn, IsTurned};
 ghost use Rattle.mw_twin.specs.Courses.{MayBeGiven};
-ghost use Rattle.mw_twin.specs.Scenes.{IsScene};
+ghost use Rattle.mw_twin.specs.RevisedBlocks.{IsRevisedBlock};
 
 use crate::elements::{Elements, elements_at};
+use crate::revised_block::RevisedBlock;
 use crate::segments::{begin_new, go_new, go_old};
-use crate::twins::Twins;
 use mw_base::NoMemory;
 use mw_revise::Side;
 use mw_segment::Came;
@@ -48,42 +48,42 @@ pub struct Course {
 }
 
 /// The old program's board at the block, with these terms for its elements.
-fn board_at(alloc: Global, twins: &Twins, elements: &[Term]) -> Result<SymBoard, NoMemory>
-    requires { length elements.now ≡ element_count twins.now.revision.board }
-    ensures elements { IfOk result (λ b. HasElements twins.now.revision.board elements.now b.place.parts) }
-    ensures begins { IfOk result (λ b. IsBeginning Board twins.now.block.before twins.now.block.sp None b) }
+fn board_at(alloc: Global, revised: &RevisedBlock, elements: &[Term]) -> Result<SymBoard, NoMemory>
+    requires { length elements.now ≡ element_count revised.now.revision.board }
+    ensures elements { IfOk result (λ b. HasElements revised.now.revision.board elements.now b.place.parts) }
+    ensures begins { IfOk result (λ b. IsBeginning Board revised.now.block.before revised.now.block.sp None b) }
     ensures symbolic { IfOk result (λ b. (store : List ℕ) (t : Table) (words : List Word) (m : Memory)
-        → twins.now.block.before < 2 ^ 12 → twins.now.block.sp ≤ depth_of twins.now.revision.board
-        → AreElements twins.now.revision.board t elements.now
-        → HaveWidths Board twins.now.revision.board t words → AreNoLater Board 0 words
-        → IsSymbolic twins.now.revision.board store t words m b) }
+        → revised.now.block.before < 2 ^ 12 → revised.now.block.sp ≤ depth_of revised.now.revision.board
+        → AreElements revised.now.revision.board t elements.now
+        → HaveWidths Board revised.now.revision.board t words → AreNoLater Board 0 words
+        → IsSymbolic revised.now.revision.board store t words m b) }
 {
-    let block = twins.block;
-    let revision = twins.revision;
+    let block = revised.block;
+    let revision = revised.revision;
     let address = block.address_on(Side::Old);
     let board = SymBoard::new(alloc, &revision.board, address, block.sp, elements)?;
     Ok(board)
 }
 
 /// The elements of both boards at the block.
-fn elements(alloc: Global, twins: &Twins) -> Result<Elements, NoMemory>
-    requires { IsBlock twins.now.revision.board twins.now.block }
-    ensures stands { IfOk result (λ e. IsGround twins.now.revision.board twins.now.block
+fn elements(alloc: Global, revised: &RevisedBlock) -> Result<Elements, NoMemory>
+    requires { IsBlock revised.now.revision.board revised.now.block }
+    ensures stands { IfOk result (λ e. IsGround revised.now.revision.board revised.now.block
         (ground_in e.space e.before.items e.after.items)) }
-    ensures counts { IfOk result (λ e. (length e.before.items ≡ element_count twins.now.revision.board)
-        × (length e.after.items ≡ element_count twins.now.revision.board)) }
+    ensures counts { IfOk result (λ e. (length e.before.items ≡ element_count revised.now.revision.board)
+        × (length e.after.items ≡ element_count revised.now.revision.board)) }
     ensures kinds { IfOk result (λ e. HaveKinds IsElementKind e.space.words) }
     ensures unread { IfOk result (λ e. e.space.memory.reads ≡ []) }
     ensures unwritten { IfOk result (λ e. (e.space.memory.board ≡ []) × (e.space.memory.machine ≡ [])) }
-    ensures listed { IfOk result (λ e. twin_start_words twins.now.revision.board twins.now.block.lines ≡ record {
+    ensures listed { IfOk result (λ e. twin_start_words revised.now.revision.board revised.now.block.lines ≡ record {
       list = list_of_space e.space;
       old_terms = e.before.items;
       new_terms = e.after.items;
     }) }
 {
-    // A function of its own for the proof: it says of `twins` what the call says of its parts.
-    let revision = twins.revision;
-    let made = elements_at(alloc, &revision.board, twins.block)?;
+    // A function of its own for the proof: it says of `revised` what the call says of its parts.
+    let revision = revised.revision;
+    let made = elements_at(alloc, &revision.board, revised.block)?;
     Ok(made)
 }
 
@@ -115,14 +115,14 @@ impl Course {
     /// # Errors
     ///
     /// Memory ran out.
-    pub fn new(alloc: Global, twins: &Twins) -> Result<Course, NoMemory>
-        requires { IsScene twins.now }
-        ensures ready { IfOk result (IsReady twins.now) }
+    pub fn new(alloc: Global, revised: &RevisedBlock) -> Result<Course, NoMemory>
+        requires { IsRevisedBlock revised.now }
+        ensures ready { IfOk result (IsReady revised.now) }
         ensures first { IfOk result (λ course. (before : List ℕ) × ((path : Function) → Agree path always
-            → IsOnCourse twins.now before [] path course course.after)) }
+            → IsOnCourse revised.now before [] path course course.after)) }
     {
-        let made = elements(alloc, twins)?;
-        let board = board_at(alloc, twins, &made.before)?;
+        let made = elements(alloc, revised)?;
+        let board = board_at(alloc, revised, &made.before)?;
         Ok(Course {
             space: made.space,
             before: board,
@@ -133,17 +133,17 @@ impl Course {
 
     /// Goes on to where the new segment begins, if that isn't there yet: nothing where it is there then, and else what is
     /// waited for, or that the old segment is late.
-    fn to_new(&mut self, alloc: Global, twins: &Twins) -> Result<Option<Turn>, NoMemory>
-        requires { IsReady twins.now self.old }
+    fn to_new(&mut self, alloc: Global, revised: &RevisedBlock) -> Result<Option<Turn>, NoMemory>
+        requires { IsReady revised.now self.old }
         ensures later { OnOk result (IsLater self.old.space.terms self.new.space.terms) }
-        ensures come { IfOk result (HaveCome twins.now self.old self.new) }
+        ensures come { IfOk result (HaveCome revised.now self.old self.new) }
     {
         if self.after.is_some() {
             return Ok(None);
         }
         match go_old(
             alloc,
-            twins,
+            revised,
             &mut self.space,
             &mut self.before,
             &self.elements,
@@ -151,7 +151,7 @@ impl Course {
             Came::Asks { kind, term } => Ok(Some(Turn::Ask { kind, term })),
             Came::Late => Ok(Some(Turn::Finished)),
             Came::Reached => {
-                let after = begin_new(alloc, twins, &self.space, &self.before, &self.elements)?;
+                let after = begin_new(alloc, revised, &self.space, &self.before, &self.elements)?;
                 self.after = Some(after);
                 Ok(None)
             }
@@ -159,16 +159,16 @@ impl Course {
     }
 
     /// Goes on to the next bit of the new segment, which has begun, or to its end.
-    fn turn_new(&mut self, alloc: Global, twins: &Twins) -> Result<Turn, NoMemory>
-        requires { (after : Symbolic) × (self.old.after ≡ Some after) × IsReadyIn twins.now self.old (Some after) }
+    fn turn_new(&mut self, alloc: Global, revised: &RevisedBlock) -> Result<Turn, NoMemory>
+        requires { (after : Symbolic) × (self.old.after ≡ Some after) × IsReadyIn revised.now self.old (Some after) }
         ensures later { OnOk result (IsLater self.old.space.terms self.new.space.terms) }
-        ensures turned { IfOk result (IsTurned twins.now self.new) }
-        ensures goes { IfOk result (GoesOnCourse twins.now self.old self.new) }
+        ensures turned { IfOk result (IsTurned revised.now self.new) }
+        ensures goes { IfOk result (GoesOnCourse revised.now self.old self.new) }
     {
         let Some(after) = &mut self.after else {
             unreachable!()
         };
-        match go_new(alloc, twins, &mut self.space, &self.before, after)? {
+        match go_new(alloc, revised, &mut self.space, &self.before, after)? {
             Came::Asks { kind, term } => Ok(Turn::Ask { kind, term }),
             Came::Reached => Ok(Turn::Finished),
             Came::Late => Ok(Turn::Finished),
@@ -181,16 +181,16 @@ impl Course {
     /// # Errors
     ///
     /// Memory ran out.
-    pub fn turn(&mut self, alloc: Global, twins: &Twins) -> Result<Turn, NoMemory>
-        requires { IsReady twins.now self.old }
+    pub fn turn(&mut self, alloc: Global, revised: &RevisedBlock) -> Result<Turn, NoMemory>
+        requires { IsReady revised.now self.old }
         ensures later { OnOk result (IsLater self.old.space.terms self.new.space.terms) }
-        ensures turned { IfOk result (IsTurned twins.now self.new) }
-        ensures goes { IfOk result (GoesOnCourse twins.now self.old self.new) }
+        ensures turned { IfOk result (IsTurned revised.now self.new) }
+        ensures goes { IfOk result (GoesOnCourse revised.now self.old self.new) }
     {
-        if let Some(turn) = self.to_new(alloc, twins)? {
+        if let Some(turn) = self.to_new(alloc, revised)? {
             return Ok(turn);
         }
-        self.turn_new(alloc, twins)
+        self.turn_new(alloc, revised)
     }
 
     /// Gives its value to the bit that the course waits for.

@@ -4,12 +4,12 @@
 mod course;
 mod elements;
 mod laws;
+mod revised_block;
 mod segments;
 mod starts;
-mod twins;
 
 pub use course::Course;
 pub use elements::{Elements, elements_at};
 pub use laws::{courses_take_bits, twin_starts_are_there};
+pub use revised_block::RevisedBlock;
 pub use starts::{TwinStarts, starts_of};
-pub use twins::Twins;

@@ -6,7 +6,7 @@ board_beside-requires c = c.requires.in_old.count
 
 pub returns-clause-in_new : goal.returns-clause-in_new
 returns-clause-in_new c =
-    let s = c.args.twins.now in
+    let s = c.args.revised.now in
     let space = c.args.space.now in
     let is = c.requires.in_old in
     let e = c.in_ok-after.ensures in
@@ -17,7 +17,7 @@ returns-clause-in_new c =
 
 pub returns-clause-goes : goal.returns-clause-goes
 returns-clause-goes c = λ own bits path met.
-    let s = c.args.twins.now in
+    let s = c.args.revised.now in
     let space = c.args.space.now in
     let is = c.requires.in_old in
     let e = c.in_ok-after.ensures in

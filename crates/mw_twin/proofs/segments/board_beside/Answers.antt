@@ -9,7 +9,7 @@ use Rattle.mw_symmem.specs.Memory.{IsOfWidth, Memory}
 use Rattle.mw_term.specs.declared.side.Side.TheVariants.{Machine}
 use Rattle.mw_term.specs.declared.word.Word.{Word}
 use Rattle.mw_term.specs.Table.{Table}
-use Rattle.mw_twin.specs.Scenes.{Scene}
+use Rattle.mw_twin.specs.RevisedBlocks.{RevisedBlock}
 use Rattle.mw_twin.proofs.segments.board_beside.Goals as goal
 
 -- it may go on where its address, its stack pointer and its terms are those of a board
@@ -23,8 +23,8 @@ returns-clause-symbolic c =
     let elements = c.args.elements.now in
     let line = c.args.line in
     let o = c.in_ok-board.board in
-    let block = c.twins.inside.block.now in
-    subst (λ (s : Scene). MayGoOn s.revision.board s.block.after s.block.sp elements line o) c.twins.view_is
+    let block = c.revised.inside.block.now in
+    subst (λ (s : RevisedBlock). MayGoOn s.revision.board s.block.after s.block.sp elements line o) c.revised.view_is
     (subst (λ (r : Revision). MayGoOn r.board block.after block.sp elements line o) c.revision.view_is
     (subst (λ (at : ℕ). MayGoOn c.revision.inside.board at block.sp elements line o) c.address_on-address.ensures
     c.in_ok-board.ensures.symbolic))

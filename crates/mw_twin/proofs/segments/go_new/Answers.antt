@@ -10,12 +10,12 @@ use Rattle.mw_twin.proofs.segments.go_new.Goals as goal
 pub returns-clause-in_new : goal.returns-clause-in_new
 returns-clause-in_new c =
     let e = c.in_ok-came.ensures in
-    in_new_still c.args.twins.now c.args.space.now c.go.new.space c.args._before.now c.args.after.now c.go.new.board
+    in_new_still c.args.revised.now c.args.space.now c.go.new.space c.args._before.now c.args.after.now c.go.new.board
     c.requires.in_new e.running e.goes e.side e.line e.later e.reads
 
 pub returns-clause-goes : goal.returns-clause-goes
 returns-clause-goes c = λ own elements b bits path same on.
-    let s = c.args.twins.now in
+    let s = c.args.revised.now in
     let old = c.args.space.now in
     let new = c.go.new.space in
     let o = c.args.after.now in

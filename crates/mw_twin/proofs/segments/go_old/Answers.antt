@@ -7,12 +7,12 @@ use Rattle.mw_twin.proofs.segments.go_old.Goals as goal
 pub returns-clause-in_old : goal.returns-clause-in_old
 returns-clause-in_old c =
     let e = c.in_ok-came.ensures in
-    in_old_still c.args.twins.now c.args.space.now c.go.new.space c.args.before.now c.go.new.board c.args._elements.now
+    in_old_still c.args.revised.now c.args.space.now c.go.new.space c.args.before.now c.go.new.board c.args._elements.now
     c.requires.in_old e.running e.goes e.side e.other e.later e.reads
 
 pub returns-clause-goes : goal.returns-clause-goes
 returns-clause-goes c = λ own bits path on.
-    let s = c.args.twins.now in
+    let s = c.args.revised.now in
     let old = c.args.space.now in
     let new = c.go.new.space in
     let o = c.args.before.now in

@@ -5,7 +5,7 @@ use Rattle.mw_twin.proofs.course.Course.new.Goals as goal
 
 pub returns-clause-ready : goal.returns-clause-ready
 returns-clause-ready c =
-    let s = c.args.twins.now in
+    let s = c.args.revised.now in
     let made = c.in_ok-made.made in
     let e = c.in_ok-made.ensures in
     let b = c.in_ok-board.ensures in
@@ -23,7 +23,7 @@ pub returns-clause-first : goal.returns-clause-first
 returns-clause-first c = (
   c.in_ok-made.made.before.items,
   λ path everywhere.
-      let s = c.args.twins.now in
+      let s = c.args.revised.now in
       let made = c.in_ok-made.made in
       let e = c.in_ok-made.ensures in
       let b = c.in_ok-board.ensures in

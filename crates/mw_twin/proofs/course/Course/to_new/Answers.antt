@@ -5,7 +5,7 @@ use Rattle.mw_twin.proofs.course.Course.to_new.Goals as goal
 
 pub returns-in-Asks-clause-come : goal.returns-in-Asks-clause-come
 returns-in-Asks-clause-come c =
-    let s = c.args.twins.now in
+    let s = c.args.revised.now in
     let new = c.go_old.new in
     let e = c.in_ok-kind.ensures in
     asks_on s c.args.self.now new.space new.before c.in_ok-kind.field-0 c.in-Asks.kind c.in-Asks.term c.in-Asks.is
@@ -16,7 +16,7 @@ returns-in-Asks-clause-come c =
 
 pub returns-in-Late-clause-come : goal.returns-in-Late-clause-come
 returns-in-Late-clause-come c =
-    let s = c.args.twins.now in
+    let s = c.args.revised.now in
     let new = c.go_old.new in
     let e = c.in_ok-kind.ensures in
     late_on s c.args.self.now new.space new.before c.in_ok-kind.field-0 c.in-Late.is (sym c.if-is_some.ensures)
@@ -26,7 +26,7 @@ returns-in-Late-clause-come c =
 
 pub returns-in_ok-after-in-Reached-clause-come : goal.returns-in_ok-after-in-Reached-clause-come
 returns-in_ok-after-in-Reached-clause-come c =
-    let s = c.args.twins.now in
+    let s = c.args.revised.now in
     let new = c.go_old.new in
     let after = c.in_ok-after-in-Reached.after in
     let b = c.in_ok-after-in-Reached.ensures in

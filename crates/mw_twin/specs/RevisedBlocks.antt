@@ -4,12 +4,12 @@ use Rattle.mw_revise.specs.Kept.{IsBlock}
 use Rattle.mw_revise.specs.Revision.{IsBlockOf, IsRevision, Revision}
 
 -- a revision and a block
-pub record Scene : Type 0 where
+pub record RevisedBlock : Type 0 where
   pub revision : Revision
   pub block : Block
 
 -- The block is one of the revision, and keeps the rules of blocks.
-pub record IsScene (s : Scene) : Type 0 where
+pub record IsRevisedBlock (s : RevisedBlock) : Type 0 where
   pub revision_is : IsRevision s.revision
   pub block_of : IsBlockOf s.revision s.block
   pub block_is : IsBlock s.revision.board s.block

@@ -10,7 +10,7 @@ use std::marker::Model;
 
 /// Both programs of a revision, and one of its blocks, at which their runs begin.
 #[derive(Drop)]
-pub struct Twins<'a> {
+pub struct RevisedBlock<'a> {
     /// The revision.
     pub revision: &'a Revision,
     /// The block, which is one of the revision's.
@@ -23,15 +23,15 @@ pub struct Twins<'a> {
     pub ghost after_is: { after.now ≡ addresses_of New revision.now },
 }
 
-impl<'a> Model for Twins<'a> {
-    ghost use Rattle.mw_twin.specs.Scenes.{Scene as Seen};
+impl<'a> Model for RevisedBlock<'a> {
+    ghost use Rattle.mw_twin.specs.RevisedBlocks.{RevisedBlock as Seen};
 
     ghost Value = { Seen };
 
     ghost view = { λ t. record { revision = t.revision.now; block = t.block.now } };
 }
 
-impl<'a> Twins<'a> {
+impl<'a> RevisedBlock<'a> {
     /// One of both programs, on the board, whose boundaries are all blocks.
     pub fn program(&self, side: Side) -> Program<'a>
         ensures { result ≡ program_on side self.now.revision }
