@@ -1,8 +1,8 @@
 -- A course goes on through both segments of a case.
-use Rattle.std.proofs.Common.{◌≡◌, ℕ, ◌<◌, List, false, Option, Some, None, refl, sym, subst}
+use Rattle.std.proofs.Common.{◌≡◌, ℕ, ◌<◌, List, Bool, true, false, Option, Some, None, refl, sym, subst}
 use Rattle.std.proofs.Common.{arith}
 use Rattle.std.specs.Prelude.{is_some}
-use Rattle.mw_revise.specs.declared.programs.Side.TheVariants.{Old}
+use Rattle.mw_revise.specs.declared.programs.Side.TheVariants.{New, Old}
 use Rattle.mw_segment.specs.declared.cycles.Came.{Came}
 use Rattle.mw_segment.specs.declared.cycles.Came.TheVariants.{Asks, Reached, Late}
 use Rattle.mw_segment.specs.Segments.{HasCome}
@@ -14,7 +14,7 @@ use Rattle.mw_term.specs.declared.decided.Decided.{Decided}
 use Rattle.mw_term.specs.declared.decided.DecidedKind.{DecidedKind}
 use Rattle.mw_term.specs.Functions.{Function}
 use Rattle.mw_twin.specs.Comes.{ComesInNew, ComesInOld}
-use Rattle.mw_twin.specs.Courses.{GoesOnCourse, HasMetCase, HasRun, HaveCome, IsOnCourse, IsReadyIn}
+use Rattle.mw_twin.specs.Courses.{GoesOnCourse, HasMetCase, HasRun, HaveCome, IsOnCourse, IsReadyIn, came_of}
 use Rattle.mw_twin.specs.Courses.{WaitsIn, WaitsOnCourse}
 use Rattle.mw_twin.specs.declared.course.Course.{Course}
 use Rattle.mw_twin.specs.OnTwins.{Behind, HasMetOld, IsOnNew, IsOnOld}
@@ -44,8 +44,12 @@ BeginsWith s elements space o after = (own : List ℕ) (bits : List Decided) (pa
     → (b : Behind) × (b.board ≡ o) × IsOnNew s.revision s.block space own elements b after bits path
 
 -- a course whose old segment went on
+abbrev pub gone_with : Course → Space → Symbolic → (late : Bool) → (after : Option Symbolic) → Course
+gone_with old space o late after =
+    record { space = space; before = o; elements = old.elements; after = after; late = late }
+
 abbrev pub gone_on : Course → Space → Symbolic → Course
-gone_on old space o = record { space = space; before = o; elements = old.elements; after = old.after }
+gone_on old space o = gone_with old space o old.late old.after
 
 -- it waits for a bit
 pub asks_on : (s : RevisedBlock) (old : Course) (space : Space) (o : Symbolic) (to : Came) (kind : DecidedKind) (term : ℕ)
@@ -67,15 +71,16 @@ asks_on s old space o to kind term is none in_old come goes =
 pub late_on : (s : RevisedBlock) (old : Course) (space : Space) (o : Symbolic) (to : Came) → to ≡ Late
     → is_some old.after ≡ false → IsInOld s space o old.elements.items
     → HasCome (program_on Old s.revision) s.block.bound space o to → GoesInOld s old space o to
-    → HasRun (gone_on old space o)
+    → HasRun s (gone_with old space o true old.after)
     × ((before : List ℕ) (bits : List Decided) (path : Function) → IsOnCourse s before bits path old old.after
-    → HasMetCase s before bits path (gone_on old space o) old.after)
+    → HasMetCase s before bits path (gone_with old space o true old.after) old.after)
 late_on s old space o to is none in_old come goes =
     let late = subst (HasCome (program_on Old s.revision) s.block.bound space o) is come in
-    subst (λ (after : Option Symbolic). HasRun (gone_on old space o)
+    subst (λ (after : Option Symbolic). HasRun s (gone_with old space o true after)
     × ((before : List ℕ) (bits : List Decided) (path : Function) → IsOnCourse s before bits path old after
-    → HasMetCase s before bits path (gone_on old space o) after)) (sym (none_before old.after none)) (
+    → HasMetCase s before bits path (gone_with old space o true after) after)) (sym (none_before old.after none)) (
       record {
+        stands = (in_old, late, refl);
         few = omega (arith, in_old.reads, late.2, in_old.revised.block_is.most);
         fresh = in_old.fresh;
       },
@@ -85,7 +90,7 @@ late_on s old space o to is none in_old come goes =
 
 -- a course whose new segment has begun
 abbrev pub begun_on : Course → Space → (o after : Symbolic) → Course
-begun_on old space o after = record { space = space; before = o; elements = old.elements; after = Some after }
+begun_on old space o after = gone_with old space o old.late (Some after)
 
 -- the new segment begins
 pub reached_on : (s : RevisedBlock) (old : Course) (space : Space) (o after : Symbolic) (to : Came) → to ≡ Reached
@@ -115,14 +120,32 @@ GoesInNew s old before space after came =
     → ComesInNew s space own elements b after bits path came
 
 -- a course whose new segment went on
-abbrev pub further_on : Course → Space → (after : Symbolic) → Course
-further_on old space after =
-    record { space = space; before = old.before; elements = old.elements; after = Some after }
+abbrev pub further_on : Course → Space → (after : Symbolic) → (late : Bool) → Course
+further_on old space after late = gone_with old space old.before late (Some after)
+
+-- it has ended
+pub new_ended : (s : RevisedBlock) (old : Course) (space : Space) (after : Symbolic) (to : Came) (late : Bool)
+    → to ≡ came_of late → IsInNew s space old.before after
+    → HasCome (program_on New s.revision) s.block.bound space after to → HasRun s (further_on old space after late)
+new_ended s old space after to true is in_new come =
+    let came = subst (HasCome (program_on New s.revision) s.block.bound space after) is come in
+    record {
+      stands = (in_new, came);
+      few = omega (arith, in_new.reads, came.2, in_new.revised.block_is.most);
+      fresh = in_new.fresh;
+    }
+new_ended s old space after to false is in_new come =
+    let came = subst (HasCome (program_on New s.revision) s.block.bound space after) is come in
+    record {
+      stands = (in_new, came);
+      few = omega (arith, in_new.reads, came.3, in_new.revised.block_is.most);
+      fresh = in_new.fresh;
+    }
 
 -- it waits for a bit
 pub new_asks_on : (s : RevisedBlock) (old : Course) (before : Symbolic) (space : Space) (after : Symbolic) (to : Came)
     (kind : DecidedKind) (term : ℕ) → to ≡ Asks kind term → old.after ≡ Some before
-    → GoesInNew s old before space after to → GoesOnCourse s old (further_on old space after) (Ask kind term)
+    → GoesInNew s old before space after to → GoesOnCourse s old (further_on old space after old.late) (Ask kind term)
 new_asks_on s old before space after to kind term is there goes own bits path on =
     let at = subst (IsOnCourse s own bits path old) there on in (
       at.0,
@@ -134,12 +157,11 @@ new_asks_on s old before space after to kind term is there goes own bits path on
 -- it has ended at a boundary
 pub new_reached_on : (s : RevisedBlock) (old : Course) (before : Symbolic) (space : Space) (after : Symbolic) (to : Came)
     → to ≡ Reached → old.after ≡ Some before → GoesInNew s old before space after to
-    → GoesOnCourse s old (further_on old space after) Finished
+    → GoesOnCourse s old (further_on old space after false) Finished
 new_reached_on s old before space after to is there goes own bits path on =
     let at = subst (IsOnCourse s own bits path old) there on in (
       at.0,
       at.1,
-      Some after.place.cycle,
       subst (ComesInNew s space own old.elements.items at.0 after bits path) is
           (goes own old.elements.items at.0 bits path at.1 at.2),
     )
@@ -147,12 +169,11 @@ new_reached_on s old before space after to is there goes own bits path on =
 -- it is late
 pub new_late_on : (s : RevisedBlock) (old : Course) (before : Symbolic) (space : Space) (after : Symbolic) (to : Came)
     → to ≡ Late → old.after ≡ Some before → GoesInNew s old before space after to
-    → GoesOnCourse s old (further_on old space after) Finished
+    → GoesOnCourse s old (further_on old space after true) Finished
 new_late_on s old before space after to is there goes own bits path on =
     let at = subst (IsOnCourse s own bits path old) there on in (
       at.0,
       at.1,
-      None,
       subst (ComesInNew s space own old.elements.items at.0 after bits path) is
           (goes own old.elements.items at.0 bits path at.1 at.2),
     )

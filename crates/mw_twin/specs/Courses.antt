@@ -1,11 +1,12 @@
 -- The course of a twin case: through the old program's segment, and behind that, where it has ended at a boundary, through
 -- the new one's.
-use Rattle.std.specs.Prelude.{◌≡◌, ℕ, ◌<◌, ◌≤◌, ◌∷◌, ◌++◌, List, [], length, Bool, Option, Some, None}
+use Rattle.std.specs.Prelude.{◌≡◌, ℕ, ◌<◌, ◌≤◌, ◌∷◌, ◌++◌, List, [], length, Bool, true, false, Option, Some, None}
 use Rattle.mw_board.specs.declared.parts.BoardParts.{BoardParts}
 use Rattle.mw_cycle.specs.Decided.{decided}
 use Rattle.mw_revise.specs.declared.programs.Side.TheVariants.{New, Old}
 use Rattle.mw_segment.specs.Segments.{HasCome}
-use Rattle.mw_segment.specs.declared.cycles.Came.TheVariants.{Asks}
+use Rattle.mw_segment.specs.declared.cycles.Came.{Came}
+use Rattle.mw_segment.specs.declared.cycles.Came.TheVariants.{Asks, Late, Reached}
 use Rattle.mw_symboard.specs.Turns.{Asks as AsksOn, IsSymbolic, Symbolic, decided_so}
 use Rattle.mw_symmem.specs.Memory.{Memory}
 use Rattle.mw_symmem.specs.declared.turn.Turn.{Turn}
@@ -46,15 +47,28 @@ WaitsIn s course None kind term = IsInOld s course.space course.before course.el
 WaitsIn s course (Some after) kind term = IsInNew s course.space course.before after
     × HasCome (program_on New s.revision) s.block.bound course.space after (Asks kind term)
 
+-- how a segment has ended that is late, or isn't
+abbrev pub came_of : (late : Bool) → Came
+came_of true = Late
+came_of false = Reached
+
+-- where it has ended: in the old segment, which is late, or in the new one
+abbrev pub HasEndedIn : RevisedBlock → Course → Option Symbolic → Type 0
+HasEndedIn s course None = IsInOld s course.space course.before course.elements.items
+    × HasCome (program_on Old s.revision) s.block.bound course.space course.before Late × (course.late ≡ true)
+HasEndedIn s course (Some after) = IsInNew s course.space course.before after
+    × HasCome (program_on New s.revision) s.block.bound course.space after (came_of course.late)
+
 -- it has ended: there were so few base reads that a comparison may make more, and there is no probe yet
-pub record HasRun (course : Course) : Type 0 where
+pub record HasRun (s : RevisedBlock) (course : Course) : Type 0 where
+  pub stands : HasEndedIn s course course.after
   pub few : length course.space.memory.reads ≤ 1024
   pub fresh : term_of course.space.words Probe ≡ None
 
 -- after a turn it waits for a bit, or has ended
 abbrev pub IsTurned : RevisedBlock → Course → Turn → Type 0
 IsTurned s course (Ask kind term) = WaitsIn s course course.after kind term
-IsTurned s course Finished = HasRun course
+IsTurned s course Finished = HasRun s course
 
 -- ---- which cases it is on, where the old board's elements began with these terms
 
@@ -74,13 +88,19 @@ WaitsOnCourse s before bits path course None kind term =
 WaitsOnCourse s before bits path course (Some after) kind term = (b : Behind) × (b.board ≡ course.before)
     × AsksInNew s.revision s.block course.space before course.elements.items b after bits path kind term
 
+-- after how many cycles a board is at the boundary that ends its segment; none where it is late
+abbrev pub end_of : (late : Bool) → Symbolic → Option ℕ
+end_of true o = None
+end_of false o = Some o.place.cycle
+
 -- it has met all bits of those cases: the old segment is late, or the new one has ended
 abbrev pub HasMetCase : RevisedBlock → (before : List ℕ) → (bits : List Decided) → (path : Function) → Course
     → Option Symbolic → Type 0
 HasMetCase s before bits path course None =
     IsLateOld s.revision s.block course.space before course.elements.items course.before bits path
-HasMetCase s before bits path course (Some after) = (b : Behind) × (b.board ≡ course.before) × (end : Option ℕ)
-    × HasMetNew s.revision s.block course.space before course.elements.items b after bits path end
+HasMetCase s before bits path course (Some after) = (b : Behind) × (b.board ≡ course.before)
+    × HasMetNew s.revision s.block course.space before course.elements.items b after bits path
+    (end_of course.late after)
 
 -- after a turn it waits for the next bit, or has met all
 abbrev pub IsTurnedOnCourse : RevisedBlock → (before : List ℕ) → (bits : List Decided) → (path : Function) → Course → Turn
@@ -119,6 +139,7 @@ pub record IsGivenTo (value : Bool) (course other : Course) : Type 0 where
   pub space : other.space ≡ course.space
   pub elements : other.elements.items ≡ course.elements.items
   pub given : IsGiven value course.before other.before course.after other.after
+  pub late : other.late ≡ course.late
 
 -- ---- the law of bits
 

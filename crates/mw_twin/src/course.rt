@@ -45,6 +45,8 @@ pub struct Course {
     pub elements: Vec<Term>,
     /// The new program's board, once the old segment has ended at a boundary; none before, and where that is late.
     pub after: Option<SymBoard>,
+    /// Whether the segment in which the case has ended is late. Of a course that hasn't ended it says nothing.
+    pub late: bool,
 }
 
 /// The old program's board at the block, with these terms for its elements.
@@ -128,6 +130,7 @@ impl Course {
             before: board,
             elements: made.after,
             after: None,
+            late: false,
         })
     }
 
@@ -149,7 +152,10 @@ impl Course {
             &self.elements,
         )? {
             Came::Asks { kind, term } => Ok(Some(Turn::Ask { kind, term })),
-            Came::Late => Ok(Some(Turn::Finished)),
+            Came::Late => {
+                self.late = true;
+                Ok(Some(Turn::Finished))
+            }
             Came::Reached => {
                 let after = begin_new(alloc, revised, &self.space, &self.before, &self.elements)?;
                 self.after = Some(after);
@@ -170,8 +176,14 @@ impl Course {
         };
         match go_new(alloc, revised, &mut self.space, &self.before, after)? {
             Came::Asks { kind, term } => Ok(Turn::Ask { kind, term }),
-            Came::Reached => Ok(Turn::Finished),
-            Came::Late => Ok(Turn::Finished),
+            Came::Reached => {
+                self.late = false;
+                Ok(Turn::Finished)
+            }
+            Came::Late => {
+                self.late = true;
+                Ok(Turn::Finished)
+            }
         }
     }
 
@@ -216,6 +228,7 @@ impl Course {
             before: self.before.copy(alloc)?,
             elements: Vec::from_slice(alloc, &self.elements)?,
             after: copied(alloc, &self.after)?,
+            late: self.late,
         };
         give(&mut other.before, &mut other.after, true);
         Ok(other)
