@@ -1,5 +1,5 @@
 -- A course goes on through both segments of a case.
-use Rattle.std.proofs.Common.{◌≡◌, ℕ, ◌<◌, List, Bool, true, false, Option, Some, None, refl, sym, subst}
+use Rattle.std.proofs.Common.{◌≡◌, ℕ, ◌<◌, ◌≤◌, List, Bool, true, false, Option, Some, None, refl, sym, subst}
 use Rattle.std.proofs.Common.{arith}
 use Rattle.std.specs.Prelude.{is_some}
 use Rattle.mw_revise.specs.declared.programs.Side.TheVariants.{New, Old}
@@ -14,10 +14,10 @@ use Rattle.mw_term.specs.declared.decided.Decided.{Decided}
 use Rattle.mw_term.specs.declared.decided.DecidedKind.{DecidedKind}
 use Rattle.mw_term.specs.Functions.{Function}
 use Rattle.mw_twin.specs.Comes.{ComesInNew, ComesInOld}
-use Rattle.mw_twin.specs.Courses.{GoesOnCourse, HasMetCase, HasRun, HaveCome, IsOnCourse, IsReadyIn, came_of}
+use Rattle.mw_twin.specs.Courses.{GoesOnCourse, HasMetCase, HasRun, HaveCome, IsOnCourse, IsReadyIn, came_of, end_of}
 use Rattle.mw_twin.specs.Courses.{WaitsIn, WaitsOnCourse}
 use Rattle.mw_twin.specs.declared.course.Course.{Course}
-use Rattle.mw_twin.specs.OnTwins.{Behind, HasMetOld, IsOnNew, IsOnOld}
+use Rattle.mw_twin.specs.OnTwins.{Behind, HasMetNew, HasMetOld, IsOnNew, IsOnOld}
 use Rattle.mw_twin.specs.Programs.{program_on}
 use Rattle.mw_twin.specs.Ready.{IsInNew, IsInOld}
 use Rattle.mw_twin.specs.RevisedBlocks.{RevisedBlock}
@@ -123,22 +123,20 @@ GoesInNew s old before space after came =
 abbrev pub further_on : Course → Space → (after : Symbolic) → (late : Bool) → Course
 further_on old space after late = gone_with old space old.before late (Some after)
 
+ended_within : (s : RevisedBlock) (space : Space) (after : Symbolic) (late : Bool)
+    → HasCome (program_on New s.revision) s.block.bound space after (came_of late) → after.place.cycle ≤ s.block.bound
+ended_within s space after true come = omega (arith, come.2)
+ended_within s space after false come = come.3
+
 -- it has ended
 pub new_ended : (s : RevisedBlock) (old : Course) (space : Space) (after : Symbolic) (to : Came) (late : Bool)
     → to ≡ came_of late → IsInNew s space old.before after
     → HasCome (program_on New s.revision) s.block.bound space after to → HasRun s (further_on old space after late)
-new_ended s old space after to true is in_new come =
+new_ended s old space after to late is in_new come =
     let came = subst (HasCome (program_on New s.revision) s.block.bound space after) is come in
     record {
       stands = (in_new, came);
-      few = omega (arith, in_new.reads, came.2, in_new.revised.block_is.most);
-      fresh = in_new.fresh;
-    }
-new_ended s old space after to false is in_new come =
-    let came = subst (HasCome (program_on New s.revision) s.block.bound space after) is come in
-    record {
-      stands = (in_new, came);
-      few = omega (arith, in_new.reads, came.3, in_new.revised.block_is.most);
+      few = omega (arith, in_new.reads, ended_within s space after late came, in_new.revised.block_is.most);
       fresh = in_new.fresh;
     }
 
@@ -154,28 +152,23 @@ new_asks_on s old before space after to kind term is there goes own bits path on
           (goes own old.elements.items at.0 bits path at.1 at.2),
     )
 
--- it has ended at a boundary
-pub new_reached_on : (s : RevisedBlock) (old : Course) (before : Symbolic) (space : Space) (after : Symbolic) (to : Came)
-    → to ≡ Reached → old.after ≡ Some before → GoesInNew s old before space after to
-    → GoesOnCourse s old (further_on old space after false) Finished
-new_reached_on s old before space after to is there goes own bits path on =
-    let at = subst (IsOnCourse s own bits path old) there on in (
-      at.0,
-      at.1,
-      subst (ComesInNew s space own old.elements.items at.0 after bits path) is
-          (goes own old.elements.items at.0 bits path at.1 at.2),
-    )
+met_new : (s : RevisedBlock) (space : Space) (own elements : List ℕ) (b : Behind) (after : Symbolic) (bits : List Decided)
+    (path : Function) (late : Bool) → ComesInNew s space own elements b after bits path (came_of late)
+    → HasMetNew s.revision s.block space own elements b after bits path (end_of late after)
+met_new s space own elements b after bits path true met = met
+met_new s space own elements b after bits path false met = met
 
--- it is late
-pub new_late_on : (s : RevisedBlock) (old : Course) (before : Symbolic) (space : Space) (after : Symbolic) (to : Came)
-    → to ≡ Late → old.after ≡ Some before → GoesInNew s old before space after to
-    → GoesOnCourse s old (further_on old space after true) Finished
-new_late_on s old before space after to is there goes own bits path on =
+-- it has ended, and met all bits
+pub new_gone_on : (s : RevisedBlock) (old : Course) (before : Symbolic) (space : Space) (after : Symbolic) (to : Came)
+    (late : Bool) → to ≡ came_of late → old.after ≡ Some before → GoesInNew s old before space after to
+    → GoesOnCourse s old (further_on old space after late) Finished
+new_gone_on s old before space after to late is there goes own bits path on =
     let at = subst (IsOnCourse s own bits path old) there on in (
       at.0,
       at.1,
-      subst (ComesInNew s space own old.elements.items at.0 after bits path) is
-          (goes own old.elements.items at.0 bits path at.1 at.2),
+      met_new s space own old.elements.items at.0 after bits path late
+          (subst (ComesInNew s space own old.elements.items at.0 after bits path) is
+          (goes own old.elements.items at.0 bits path at.1 at.2)),
     )
 
 -- ---- behind the old segment

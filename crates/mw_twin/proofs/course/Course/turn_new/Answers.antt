@@ -1,5 +1,5 @@
 use Rattle.std.proofs.Common.{true, false}
-use Rattle.mw_twin.proofs.Courses.{new_asks_on, new_ended, new_late_on, new_reached_on}
+use Rattle.mw_twin.proofs.Courses.{new_asks_on, new_ended, new_gone_on}
 use Rattle.mw_twin.proofs.course.Course.turn_new.Goals as goal
 
 pub returns-in-Asks-clause-goes : goal.returns-in-Asks-clause-goes
@@ -19,10 +19,10 @@ returns-in-Late-clause-turned c =
 
 pub returns-in-Reached-clause-goes : goal.returns-in-Reached-clause-goes
 returns-in-Reached-clause-goes c =
-    new_reached_on c.args.revised.now c.args.self.now c.in-Some.after c.go_new.new.space c.go_new.new.after
-    c.in_ok-kind.field-0 c.in-Reached.is c.in-Some.is c.in_ok-kind.ensures.goes
+    new_gone_on c.args.revised.now c.args.self.now c.in-Some.after c.go_new.new.space c.go_new.new.after
+    c.in_ok-kind.field-0 false c.in-Reached.is c.in-Some.is c.in_ok-kind.ensures.goes
 
 pub returns-in-Late-clause-goes : goal.returns-in-Late-clause-goes
 returns-in-Late-clause-goes c =
-    new_late_on c.args.revised.now c.args.self.now c.in-Some.after c.go_new.new.space c.go_new.new.after
-    c.in_ok-kind.field-0 c.in-Late.is c.in-Some.is c.in_ok-kind.ensures.goes
+    new_gone_on c.args.revised.now c.args.self.now c.in-Some.after c.go_new.new.space c.go_new.new.after
+    c.in_ok-kind.field-0 true c.in-Late.is c.in-Some.is c.in_ok-kind.ensures.goes
