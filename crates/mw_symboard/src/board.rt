@@ -155,9 +155,8 @@ impl SymBoard {
     }
 
     /// A board at a control address, with so many words on its stack, and with these terms for its elements, by their
-    /// numbers. It reads and writes the board's side of the memory. It may go on where the address is below 4,096, the
-    /// stack has so many words, each term has its element's width, and the words have no line and no noise of the board's
-    /// side. No cycle is finished and no input taken.
+    /// numbers. It has the board's side of the memory, and has done nothing. It may go on where the address is below
+    /// 4,096, the stack has so many words, each term has its element's width, and no word is a line or noise of its side.
     ///
     /// # Errors
     ///
@@ -181,10 +180,9 @@ impl SymBoard {
         Ok(begun)
     }
 
-    /// A board beside another, like one that `new` makes; but it reads and writes the machine's side of the memory, its
-    /// variables are those of a board beside another, and the line of its first cycle is this term of one bit, so that
-    /// no variable stands for it. Inputs have the other board's variables, by their numbers. It may go on where `new` says,
-    /// but that the words have no line and no noise of a board beside another; the other board's may be there.
+    /// A board beside another, like one that `new` makes; but it has the machine's side of the memory and the variables of
+    /// a board beside another, while inputs have the other's, by their numbers. The line of its first cycle is this term
+    /// of one bit: no variable stands for it. It may go on where `new` says; the other's lines and noise may be there.
     ///
     /// # Errors
     ///
@@ -276,9 +274,8 @@ impl SymBoard {
         ensures place { self.new.place ≡ self.old.place }
         ensures events { self.new.events ≡ self.old.events }
         ensures asked { self.new.asked ≡ self.old.asked }
-        ensures goes { OnOk result (GoesOn (IsCycleKind self.old.place.side self.old.place.cycle
-            self.old.place.taken self.old.place.line)
-            terms.old terms.new words.old words.new memory.old memory.new) }
+        ensures goes { OnOk result (GoesOn (IsCycleKind self.old.place.side self.old.place.cycle self.old.place.taken
+            self.old.place.line) terms.old terms.new words.old words.new memory.old memory.new) }
         ensures writes { OnOk result (KeepsWrites memory.old memory.new) }
         ensures reads { OnOk result (length memory.new.reads ≤ length memory.old.reads + reads_to_come self.old) }
         ensures listed { OnOk result (GoesAlong board.now store.now.words
@@ -596,8 +593,7 @@ impl SymBoard {
         )
     }
 
-    /// The edge, and what the outside sees of the cycle: an input that is taken hides an output. All bits of the cycle
-    /// are decided.
+    /// The edge, and what the outside sees: an input that is taken hides an output. All bits of the cycle are decided.
     fn finish(
         &mut self,
         alloc: Global,
@@ -709,9 +705,8 @@ impl SymBoard {
         requires symbolic { IsSymbolic board.now store.now.words terms.old words.old memory.old self.old }
         ensures turn { IfOk result
             (IsTurn board.now store.now.words terms.new words.new memory.old memory.new self.old self.new) }
-        ensures goes { OnOk result (GoesOn (IsCycleKind self.old.place.side self.old.place.cycle
-            self.old.place.taken self.old.place.line)
-            terms.old terms.new words.old words.new memory.old memory.new) }
+        ensures goes { OnOk result (GoesOn (IsCycleKind self.old.place.side self.old.place.cycle self.old.place.taken
+            self.old.place.line) terms.old terms.new words.old words.new memory.old memory.new) }
         ensures reads { OnOk result (length memory.new.reads ≤ length memory.old.reads + reads_to_come self.old) }
         ensures other { OnOk result (writes_of memory.new (other_side self.old.place.side)
             ≡ writes_of memory.old (other_side self.old.place.side)) }
