@@ -152,25 +152,25 @@ idle_given o now kind value bound same below =
     subst (λ (b : Symbolic). (b.asked ≡ None) × (b.place.cycle < bound)) (sym same) (refl, below)
 
 ready_by : (s : RevisedBlock) (old new : Course) (kind : DecidedKind) (term : ℕ) (value : Bool) (before after : Option Symbolic)
-    → new.space ≡ old.space → new.elements.items ≡ old.elements.items → WaitsIn s old before kind term
-    → IsGiven value old.before new.before before after → IsReadyIn s new after
+    → new.space ≡ old.space → new.new_elements.items ≡ old.new_elements.items → WaitsIn s old before kind term
+    → IsGiven value old.old_board new.old_board before after → IsReadyIn s new after
 ready_by s old new kind term value None after space elements waits given =
     let same = given.1.new_is kind waits.1.0.asked in
-    let idle = idle_given old.before new.before kind value s.block.bound same waits.1.1 in
-    let now = in_old_given s old.space old.before new.before old.elements.items kind term value waits.0 waits.1.0 given.1
+    let idle = idle_given old.old_board new.old_board kind value s.block.bound same waits.1.1 in
+    let now = in_old_given s old.space old.old_board new.old_board old.new_elements.items kind term value waits.0 waits.1.0 given.1
     in
     subst (λ (o : Option Symbolic). IsReadyIn s new o) (sym given.0) (
-      subst (λ (p : Space). IsInOld s p new.before new.elements.items) (sym space)
-          (subst (λ (ts : List ℕ). IsInOld s old.space new.before ts) (sym elements) now),
+      subst (λ (p : Space). IsInOld s p new.old_board new.new_elements.items) (sym space)
+          (subst (λ (ts : List ℕ). IsInOld s old.space new.old_board ts) (sym elements) now),
       idle.0,
       idle.1,
     )
 ready_by s old new kind term value (Some o) after space elements waits given =
     let same = given.3.new_is kind waits.1.0.asked in
     let idle = idle_given o given.0 kind value s.block.bound same waits.1.1 in
-    let now = in_new_given s old.space old.before o given.0 kind term value waits.0 waits.1.0 given.3 in
+    let now = in_new_given s old.space old.old_board o given.0 kind term value waits.0 waits.1.0 given.3 in
     subst (λ (there : Option Symbolic). IsReadyIn s new there) (sym given.1) (
-      subst (λ (p : Space). IsInNew s p new.before given.0) (sym space)
+      subst (λ (p : Space). IsInNew s p new.old_board given.0) (sym space)
           (subst (λ (b : Symbolic). IsInNew s old.space b given.0) (sym given.2) now),
       idle.0,
       idle.1,
@@ -178,7 +178,7 @@ ready_by s old new kind term value (Some o) after space elements waits given =
 
 pub bits_make_ready : BitsMakeReady
 bits_make_ready s old new kind term value waits to =
-    ready_by s old new kind term value old.after new.after to.space to.elements waits to.given
+    ready_by s old new kind term value old.new_board new.new_board to.space to.new_elements waits to.given
 
 -- ---- on its way
 
@@ -219,37 +219,24 @@ on_new_given s space before elements b o bits path next kind term value asks has
       listed = λ idle. asks.left value;
     }
 
-on_by : (s : RevisedBlock) (before : List ℕ) (bits : List Decided) (path next : Function) (old new : Course)
-    (kind : DecidedKind) (term : ℕ) (value : Bool) (there after : Option Symbolic) → new.space ≡ old.space
-    → new.elements.items ≡ old.elements.items → WaitsIn s old there kind term
-    → WaitsOnCourse s before bits path old there kind term → IsGiven value old.before new.before there after
-    → HasDecidedOn s before bits path next old kind term value
-    → IsOnCourse s before (bits ++ decided kind value ∷ []) next new after
-on_by s before bits path next old new kind term value None after space elements waits asks given has =
-    let more = bits ++ decided kind value ∷ [] in
-    let revision = s.revision in
+on_by : (s : RevisedBlock) (bits : List Decided) (path next : Function) (old new : Course) (kind : DecidedKind) (term : ℕ)
+    (value : Bool) (there after : Option Symbolic) → new.space ≡ old.space
+    → new.old_elements.items ≡ old.old_elements.items → new.new_elements.items ≡ old.new_elements.items
+    → WaitsIn s old there kind term → WaitsOnCourse s bits path old there kind term
+    → IsGiven value old.old_board new.old_board there after → HasDecidedOn s bits path next old kind term value
+    → IsOnCourse s (bits ++ decided kind value ∷ []) next new after
+on_by s bits path next old new kind term value None after space old_elements new_elements waits asks given has =
     let same = given.1.new_is kind waits.1.0.asked in
-    let on = on_old_given s old.space before old.elements.items old.before bits path next kind term value asks has in
-    subst (λ (o : Option Symbolic). IsOnCourse s before more next new o) (sym given.0)
-    (subst (λ (p : Space). IsOnOld revision s.block p before new.elements.items new.before more next) (sym space)
-    (subst (λ (ts : List ℕ). IsOnOld revision s.block old.space before ts new.before more next) (sym elements)
-    (subst (λ (b : Symbolic). IsOnOld revision s.block old.space before old.elements.items b more next) (sym same) on)))
-on_by s before bits path next old new kind term value (Some o) after space elements waits asks given has =
-    let more = bits ++ decided kind value ∷ [] in
-    let revision = s.revision in
-    let b = asks.0 in
+    let on = on_old_given s old.space old.old_elements.items old.new_elements.items old.old_board bits path next kind term
+    value asks has in
+    rw (given.0, space, old_elements, new_elements, same) on
+on_by s bits path next old new kind term value (Some o) after space old_elements new_elements waits asks given has =
     let same = given.3.new_is kind waits.1.0.asked in
-    let on = on_new_given s old.space before old.elements.items b o bits path next kind term value asks.2 has in
-    subst (λ (there : Option Symbolic). IsOnCourse s before more next new there) (sym given.1) (
-      b,
-      asks.1 ∙ sym given.2,
-      subst (λ (p : Space). IsOnNew revision s.block p before new.elements.items b given.0 more next) (sym space)
-          (subst (λ (ts : List ℕ). IsOnNew revision s.block old.space before ts b given.0 more next) (sym elements)
-          (subst (λ (n : Symbolic). IsOnNew revision s.block old.space before old.elements.items b n more next)
-          (sym same) on)),
-    )
+    let on = on_new_given s old.space old.old_elements.items old.new_elements.items asks.0 o bits path next kind term
+    value asks.2 has in
+    rw (given.1, given.2, space, old_elements, new_elements, same) (asks.0, asks.1, on)
 
 pub bits_go_on_course : BitsGoOnCourse
-bits_go_on_course s before bits path next old new kind term value waits asks to has =
-    on_by s before bits path next old new kind term value old.after new.after to.space to.elements waits asks to.given
-    has
+bits_go_on_course s bits path next old new kind term value waits asks to has =
+    on_by s bits path next old new kind term value old.new_board new.new_board to.space to.old_elements to.new_elements
+    waits asks to.given has

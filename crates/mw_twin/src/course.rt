@@ -39,12 +39,14 @@ use std::alloc::Global;
 pub struct Course {
     /// What both boards' runs work on.
     pub space: Space,
+    /// The terms of the old board's elements at the block, by their numbers, with which its segment begins.
+    pub old_elements: Vec<Term>,
+    /// Those of the new board's elements.
+    pub new_elements: Vec<Term>,
     /// The old program's board.
-    pub before: SymBoard,
-    /// The terms of the new board's elements at the block, by their numbers, with which its segment begins.
-    pub elements: Vec<Term>,
+    pub old_board: SymBoard,
     /// The new program's board, once the old segment has ended at a boundary; none before, and where that is late.
-    pub after: Option<SymBoard>,
+    pub new_board: Option<SymBoard>,
     /// Whether the segment in which the case has ended is late. Of a course that hasn't ended it says nothing.
     pub late: bool,
 }
@@ -120,16 +122,17 @@ impl Course {
     pub fn new(alloc: Global, revised: &RevisedBlock) -> Result<Course, NoMemory>
         requires { IsRevisedBlock revised.now }
         ensures ready { IfOk result (IsReady revised.now) }
-        ensures first { IfOk result (λ course. (before : List ℕ) × ((path : Function) → Agree path always
-            → IsOnCourse revised.now before [] path course course.after)) }
+        ensures first { IfOk result (λ course. (path : Function) → Agree path always
+            → IsOnCourse revised.now [] path course course.new_board) }
     {
         let made = elements(alloc, revised)?;
         let board = board_at(alloc, revised, &made.before)?;
         Ok(Course {
             space: made.space,
-            before: board,
-            elements: made.after,
-            after: None,
+            old_elements: made.before,
+            new_elements: made.after,
+            old_board: board,
+            new_board: None,
             late: false,
         })
     }
@@ -141,15 +144,15 @@ impl Course {
         ensures later { OnOk result (IsLater self.old.space.terms self.new.space.terms) }
         ensures come { IfOk result (HaveCome revised.now self.old self.new) }
     {
-        if self.after.is_some() {
+        if self.new_board.is_some() {
             return Ok(None);
         }
         match go_old(
             alloc,
             revised,
             &mut self.space,
-            &mut self.before,
-            &self.elements,
+            &mut self.old_board,
+            &self.new_elements,
         )? {
             Came::Asks { kind, term } => Ok(Some(Turn::Ask { kind, term })),
             Came::Late => {
@@ -157,8 +160,14 @@ impl Course {
                 Ok(Some(Turn::Finished))
             }
             Came::Reached => {
-                let after = begin_new(alloc, revised, &self.space, &self.before, &self.elements)?;
-                self.after = Some(after);
+                let after = begin_new(
+                    alloc,
+                    revised,
+                    &self.space,
+                    &self.old_board,
+                    &self.new_elements,
+                )?;
+                self.new_board = Some(after);
                 Ok(None)
             }
         }
@@ -166,15 +175,15 @@ impl Course {
 
     /// Goes on to the next bit of the new segment, which has begun, or to its end.
     fn turn_new(&mut self, alloc: Global, revised: &RevisedBlock) -> Result<Turn, NoMemory>
-        requires { (after : Symbolic) × (self.old.after ≡ Some after) × IsReadyIn revised.now self.old (Some after) }
+        requires { (after : Symbolic) × (self.old.new_board ≡ Some after) × IsReadyIn revised.now self.old (Some after) }
         ensures later { OnOk result (IsLater self.old.space.terms self.new.space.terms) }
         ensures turned { IfOk result (IsTurned revised.now self.new) }
         ensures goes { IfOk result (GoesOnCourse revised.now self.old self.new) }
     {
-        let Some(after) = &mut self.after else {
+        let Some(after) = &mut self.new_board else {
             unreachable!()
         };
-        match go_new(alloc, revised, &mut self.space, &self.before, after)? {
+        match go_new(alloc, revised, &mut self.space, &self.old_board, after)? {
             Came::Asks { kind, term } => Ok(Turn::Ask { kind, term }),
             Came::Reached => {
                 self.late = false;
@@ -207,10 +216,10 @@ impl Course {
 
     /// Gives its value to the bit that the course waits for.
     pub fn decide(&mut self, value: bool)
-        requires { MayBeGiven self.old.before self.old.after }
+        requires { MayBeGiven self.old.old_board self.old.new_board }
         ensures { IsGivenTo value self.old self.new }
     {
-        give(&mut self.before, &mut self.after, value);
+        give(&mut self.old_board, &mut self.new_board, value);
     }
 
     /// Another one, over a copy of what this one works on, for which the bit that this one waits for is 1. This one
@@ -220,17 +229,18 @@ impl Course {
     ///
     /// Memory ran out.
     pub fn other(&self, alloc: Global) -> Result<Course, NoMemory>
-        requires { MayBeGiven self.now.before self.now.after }
+        requires { MayBeGiven self.now.old_board self.now.new_board }
         ensures { IfOk result (IsGivenTo true self.now) }
     {
         let mut other = Course {
             space: self.space.copy(alloc)?,
-            before: self.before.copy(alloc)?,
-            elements: Vec::from_slice(alloc, &self.elements)?,
-            after: copied(alloc, &self.after)?,
+            old_elements: Vec::from_slice(alloc, &self.old_elements)?,
+            new_elements: Vec::from_slice(alloc, &self.new_elements)?,
+            old_board: self.old_board.copy(alloc)?,
+            new_board: copied(alloc, &self.new_board)?,
             late: self.late,
         };
-        give(&mut other.before, &mut other.after, true);
+        give(&mut other.old_board, &mut other.new_board, true);
         Ok(other)
     }
 }

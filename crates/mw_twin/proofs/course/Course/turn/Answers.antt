@@ -4,7 +4,7 @@ use Rattle.mw_twin.proofs.course.Course.turn.Goals as goal
 
 pub returns-clause-goes : goal.returns-clause-goes
 returns-clause-goes c =
-    IfOk-weaker c.turn_new.result _ _ (λ turn goes before bits path on.
-    goes before bits path
+    IfOk-weaker c.turn_new.result _ _ (λ turn goes bits path on.
+    goes bits path
     (come_on c.args.revised.now c.args.self.now c.to_new.new.self c.in_ok-turn.field-0 c.in_default.is
-    c.in_ok-turn.ensures.come before bits path on)) c.turn_new.ensures.goes
+    c.in_ok-turn.ensures.come bits path on)) c.turn_new.ensures.goes
