@@ -4,7 +4,7 @@ use Rattle.mw_rel.specs.ComparisonWords.{Compared}
 use Rattle.mw_term.specs.Assigned.{Numbers}
 use Rattle.mw_term.specs.Functions.{Function}
 use Rattle.mw_space.specs.declared.space.Space.{Space}
-use Rattle.mw_compare.specs.Faults.{RunStop}
+use Rattle.mw_decide.specs.Faults.{RunStop}
 use Rattle.mw_compare.specs.Comparing.{Compares}
 
 -- none showed a difference up to those that are left: what is said of these, from this space on, is so of all

@@ -8,11 +8,11 @@ use Rattle.mw_term.specs.Cofactors.{Agree}
 use Rattle.mw_term.specs.Functions.{Function}
 use Rattle.mw_space.specs.declared.space.Space.{Space}
 use Rattle.mw_path.specs.declared.paths.Paths.{Paths}
-use Rattle.mw_compare.specs.Faults.{RunStop}
+use Rattle.mw_decide.specs.Faults.{RunStop}
 use Rattle.mw_compare.specs.Comparing.{Compares, FailsFirst, GoesComparing, HaveCompared, IsComparedKind}
 use Rattle.mw_compare.specs.Comparing.{IsOutcome, StopsComparing}
 use Rattle.mw_space.specs.Spaces.{list_of_space}
-use Rattle.mw_compare.specs.SpacePaths.{HavePaths}
+use Rattle.mw_decide.specs.SpacePaths.{HavePaths}
 use Rattle.mw_compare.proofs.GoingOn.{GoesOnAs, front_then}
 use Rattle.mw_path.proofs.Sharing.{shared_with_more}
 

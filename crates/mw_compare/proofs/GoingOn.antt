@@ -15,17 +15,9 @@ use Rattle.mw_term.specs.MemoryRead.{Held}
 use Rattle.mw_term.specs.WordList.{WordList, memory_read_words, over_reads, over_write, over_writes, plain, variable}
 use Rattle.mw_term.specs.WordList.{with_constant, with_same, with_variable, with_word}
 use Rattle.mw_compare.specs.Comparing.{IsFrontOf}
+pub use Rattle.mw_decide.proofs.OverWords.{front_itself}
 
 -- ---- lists
-
--- as it is
-pub front_itself : (l : WordList) → IsFrontOf l l
-front_itself l = record {
-  ops = [];
-  words = [];
-  ops_are = sym (append-nil l.ops);
-  words_are = sym (append-nil l.words);
-}
 
 -- and further
 pub front_then : (a b c : WordList) → IsFrontOf a b → IsFrontOf b c → IsFrontOf a c

@@ -1,7 +1,10 @@
 pub mod CameTo
 pub mod ComparingOn
+pub mod EachCompared
 pub mod EventsCompared
 pub mod GoingOn
+pub mod LongerRows
 pub mod MemoryCompared
 pub mod Options
+pub mod OverCompared
 pub mod TermsCompared

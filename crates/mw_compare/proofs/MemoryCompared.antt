@@ -21,7 +21,7 @@ use Rattle.mw_term.specs.MemoryRead.{Held, held}
 use Rattle.mw_term.specs.Values.{IsTermOf, Keeps, term_value}
 use Rattle.mw_term.specs.WordList.{Ended, WordList, ended, memory_read_words, variable, with_variable}
 use Rattle.mw_space.specs.declared.space.Space.{Space}
-use Rattle.mw_compare.specs.Faults.{RunStop}
+use Rattle.mw_decide.specs.Faults.{RunStop}
 use Rattle.mw_compare.specs.Comparing.{AreOneAtProbe, AreOneOn, AreTwoAt, AreTwoInMemory, AreWritesOn, GoesComparing}
 use Rattle.mw_compare.specs.Comparing.{IsComparedKind}
 use Rattle.mw_space.specs.Spaces.{list_of_space}

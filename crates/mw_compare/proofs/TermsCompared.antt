@@ -27,9 +27,9 @@ use Rattle.mw_term.specs.Table.{Extends, IsTable, Table, op_width, table_of}
 use Rattle.mw_term.specs.Values.{IsTermOf, Keeps, op_value, term_value}
 use Rattle.mw_term.specs.WordList.{Ended, WordList, word_number, plain, with_word}
 use Rattle.mw_space.specs.declared.space.Space.{Space}
-use Rattle.mw_compare.specs.Faults.{RunStop}
+use Rattle.mw_decide.specs.Faults.{RunStop}
 use Rattle.mw_explore.specs.declared.fault.Fault.TheVariants as stops
-use Rattle.mw_compare.specs.declared.fault.Place.{Place}
+use Rattle.mw_decide.specs.declared.fault.Place.{Place}
 use Rattle.mw_compare.specs.Comparing.{AreOneOn, AreTwoAt, Compares, IsComparedKind, IsComparedOver, word_on}
 use Rattle.mw_compare.specs.Comparing.IsComparedOver.{at_comparison, in_list}
 use Rattle.mw_space.specs.Spaces.{list_of_space}

@@ -6,8 +6,6 @@ use Rattle.mw_term.specs.declared.event.SymEvent.{SymEvent}
 use Rattle.mw_term.specs.declared.event.SymEvent.TheVariants.{Out}
 use Rattle.mw_term.specs.declared.kinds.WordKind.{WordKind}
 use Rattle.mw_term.specs.declared.kinds.WordKind.TheVariants.{Base, Probe}
-use Rattle.mw_term.specs.declared.op.Op.{Op}
-use Rattle.mw_term.specs.declared.word.Word.{Word}
 use Rattle.mw_term.specs.Assigned.{Given, Numbers}
 use Rattle.mw_term.specs.Cofactors.{Agree, HasAtMostCofactors, HasMoreCofactors}
 use Rattle.mw_term.specs.Functions.{Function, Triple, made, never}
@@ -26,8 +24,9 @@ use Rattle.mw_symmach.specs.Steps.{event_term}
 use Rattle.mw_space.specs.declared.space.Space.{Space}
 use Rattle.mw_space.specs.Spaces.{list_of_space}
 use Rattle.mw_explore.specs.declared.fault.Fault.TheVariants.{Over}
-use Rattle.mw_compare.specs.declared.fault.Place.{Place}
-use Rattle.mw_compare.specs.Faults.{RunStop}
+use Rattle.mw_decide.specs.declared.fault.Place.{Place}
+pub use Rattle.mw_decide.specs.Fronts.{IsFrontOf}
+use Rattle.mw_decide.specs.Faults.{RunStop}
 
 -- ---- what is listed
 
@@ -69,13 +68,6 @@ AreEventsOf t word events =
 pub record AreWritesOn (space : Space) (s : Sides) : Type 0 where
   pub board : s.board_writes ≡ space.memory.board
   pub machine : s.machine_writes ≡ space.memory.machine
-
--- a list goes on as another
-pub record IsFrontOf (front all : WordList) : Type 0 where
-  pub ops : List Op
-  pub words : List Word
-  pub ops_are : all.ops ≡ front.ops ++ ops
-  pub words_are : all.words ≡ front.words ++ words
 
 -- Why the comparison stops: at a comparison such an operation is over, of the word with this number, or of a constant
 -- and then behind the last word; and the list up to the comparison is the beginning of that of the whole.

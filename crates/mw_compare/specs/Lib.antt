@@ -1,3 +1,2 @@
 pub mod Comparing
-pub mod Faults
-pub mod SpacePaths
+pub mod TreeComparisons

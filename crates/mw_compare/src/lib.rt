@@ -4,11 +4,9 @@
 #![tactic(auto)]
 
 mod events;
-mod fault;
 mod memory;
 mod terms;
 
 pub use events::{alike, compare_events, compare_pair, out_of};
-pub use fault::{Place, RunStop, stop_of};
 pub use memory::{compare_memory, read_at};
 pub use terms::apart;

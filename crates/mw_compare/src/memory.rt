@@ -11,11 +11,11 @@ ghost use Rattle.mw_symmem.specs.Workspace.{IsWorkspace};
 ghost use Rattle.mw_space.specs.Spaces.{list_of_space};
 ghost use Rattle.mw_path.specs.Paths.{StayOnPath, path_in};
 ghost use Rattle.mw_compare.specs.Comparing.{AreOneAtProbe, AreTwoInMemory, AreWritesOn, Compares, GoesComparing};
-ghost use Rattle.mw_compare.specs.SpacePaths.{HavePaths};
+ghost use Rattle.mw_decide.specs.SpacePaths.{HavePaths};
 
-use crate::fault::RunStop;
 use crate::terms::apart;
 use mw_base::NoMemory;
+use mw_decide::RunStop;
 use mw_path::Paths;
 use mw_space::Space;
 use mw_symmem::Side;

@@ -9,9 +9,9 @@ ghost use Rattle.mw_symmem.specs.Memory.{IsOfWidth};
 ghost use Rattle.mw_symmem.specs.Workspace.{IsWorkspace};
 ghost use Rattle.mw_path.specs.Paths.{StayOnPath, path_in};
 ghost use Rattle.mw_compare.specs.Comparing.{AreOneOn, AreTwoAt, Compares, GoesComparing};
-ghost use Rattle.mw_compare.specs.SpacePaths.{HavePaths};
+ghost use Rattle.mw_decide.specs.SpacePaths.{HavePaths};
 
-use crate::fault::{RunStop, stop_of};
+use mw_decide::{RunStop, stop_of};
 use mw_path::Paths;
 use mw_space::Space;
 use mw_term::{Assignment, Op, ShortcutBook, Term};

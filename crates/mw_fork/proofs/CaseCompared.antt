@@ -34,7 +34,7 @@ use Rattle.mw_rel.specs.declared.difference.Difference.TheVariants.{Late}
 use Rattle.mw_rel.specs.SteadyDiffers.{difference_of, first_step, segment_of, shown_at, shown_by}
 use Rattle.mw_rel.specs.Free.{no_boundary, numbered}
 use Rattle.mw_rel.specs.Job.{Job, IsJob}
-use Rattle.mw_rel.specs.PathWords.{path_of}
+use Rattle.mw_rel.specs.PathWords.{path_of, tree_of}
 use Rattle.mw_rel.specs.Lines.{reads_of}
 use Rattle.mw_rel.specs.Relation.{Boundary}
 use Rattle.mw_rel.specs.Rules.{IsLineOf}
@@ -58,7 +58,7 @@ use Rattle.mw_course.specs.Starts.{IsGround, StandsForStart}
 use Rattle.mw_fork.proofs.ComparingOn.{wide_compared}
 use Rattle.mw_fork.proofs.Differing.{AreEven, even_where_nothing, nothing_shown, terms_there, wide_at_end}
 use Rattle.mw_course.proofs.Grounds.{have_starts}
-use Rattle.mw_fork.proofs.OverCompared.{sought_by, sought_on_path}
+use Rattle.mw_compare.proofs.OverCompared.{sought_by, sought_on_path}
 use Rattle.mw_fork.proofs.Probes.{ground_compared, reached_at, start_compared}
 use Rattle.mw_fork.proofs.Sides.{ComeTo, come_later, come_to, terms_at_end}
 use Rattle.mw_course.proofs.Tracing.{case_met}
@@ -324,7 +324,7 @@ found_apart job number elements bits cycles old new path board step reached comp
     own formed there words
     fails two =
     let by =
-    sought_by job number bits old.terms.map new path compared numbers is.stands.space.map words is.written fails in
+    sought_by (tree_of job number) bits old.terms.map new path compared numbers is.stands.space.map words is.written fails in
     let given = given_by numbers in
     let on =
     path_there (path given) (bit (table_in old.terms.map fails.at.list) fails.at.term 0 given) fails.first.holds in
@@ -351,7 +351,7 @@ pub found_on_path : (job : Job) (number : ℕ) (elements : List ℕ) (bits : Lis
     → path (given_by numbers) ≡ true → difference_of job start ≢ None)
     → IsFound job number elements bits space numbers
 found_on_path job number elements bits space path numbers stands written whole_case words first differs =
-    let by = sought_on_path job number bits space path numbers (ap (λ (w : CaseWords). w.comparisons) words)
+    let by = sought_on_path (tree_of job number) bits space path numbers (ap (λ (w : CaseWords). w.comparisons) words)
     (ap (λ (w : CaseWords). w.list) words) written first in
     record {
       stands = stands;

@@ -14,7 +14,7 @@ use Rattle.mw_term.specs.Assigned.{Numbers}
 use Rattle.mw_term.specs.Cofactors.{Agree}
 use Rattle.mw_term.specs.Functions.{never, Function}
 use Rattle.mw_symmach.specs.Turns.{Stepping}
-use Rattle.mw_fork.specs.declared.traced.Traced.{Traced}
+use Rattle.mw_fork.specs.Traces.{Traced}
 use Rattle.mw_course.specs.declared.run.Run.{Run}
 use Rattle.mw_fork.specs.Traces.{HasGone}
 use Rattle.mw_course.specs.Ends.{EndsBy}

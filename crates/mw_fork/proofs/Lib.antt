@@ -12,12 +12,9 @@ pub mod LateCompared
 pub mod LineCompared
 pub mod LinesGoOn
 pub mod LinesCompared
-pub mod LongerRows
 pub mod Numbered
 pub mod OneMore
 pub mod OthersWait
-pub mod OverCompared
-pub mod OverWords
 pub mod Probes
 pub mod Restored
 pub mod Seen
@@ -25,4 +22,3 @@ pub mod Sides
 pub mod SidesCompared
 pub mod StartLaws
 pub mod Walking
-pub mod WordPaths

@@ -21,7 +21,8 @@ use Rattle.mw_rel.specs.Free.{no_boundary, numbered}
 use Rattle.mw_rel.specs.Job.{Job}
 use Rattle.mw_rel.specs.Start.{addresses_of}
 use Rattle.mw_rel.specs.StartWords.{StartsAreNumbered, start_words}
-use Rattle.mw_fork.proofs.EachCompared.{AreCompared, AreComparedIn, all_are_compared, none_compared}
+use Rattle.mw_compare.proofs.EachCompared.{AreCompared, AreComparedIn, none_compared}
+use Rattle.mw_fork.proofs.EachCompared.{all_are_compared}
 
 -- the laws of numbers: of starts, of cycles, of described steps and of comparisons
 pub record AreNumbered : Type 0 where

@@ -4,13 +4,13 @@ use Rattle.mw_term.specs.declared.decided.Decided.{Decided}
 use Rattle.mw_term.specs.Functions.{Function}
 use Rattle.mw_term.specs.Laws.{StandsInMore}
 use Rattle.mw_dd.specs.Nodes.{function_of}
-use Rattle.mw_path.specs.Paths.{path_in}
+use Rattle.mw_path.specs.Paths.{HaveGrown, path_in}
 use Rattle.mw_rel.specs.Job.{Job}
 use Rattle.mw_course.specs.Courses as courses
-use Rattle.mw_fork.specs.declared.traced.Traced.{Traced}
-use Rattle.mw_fork.specs.declared.traced.Waiting.{Waiting}
+use Rattle.mw_fork.specs.Traces.{Traced, Waiting}
 use Rattle.mw_fork.specs.Traces.{HasGone, IsWaiting, StaysAs, over_places}
-use Rattle.mw_fork.proofs.OthersWait.{one_function, waits_on}
+use Rattle.mw_decide.proofs.Remaining.{path_remains, paths_remain}
+use Rattle.mw_fork.proofs.OthersWait.{waits_on}
 
 -- the course with what it worked on before
 abbrev pub restored : (old compared : Traced) → Traced
@@ -65,28 +65,26 @@ is_restored old compared new stays space paths board registers cycles step =
       paths = sym paths_are i;
     }
 
+-- what was made has grown
+grown_still : (old compared : Traced) → StaysAs old compared → HaveGrown old.paths (restored old compared).paths
+grown_still old compared stays = record {
+  nodes = stays.paths.grown.nodes;
+  extends = stays.paths.grown.extends;
+  terms = stays.paths.grown.terms;
+}
+
 -- it has met the case still
 pub gone_still : (job : Job) (number : ℕ) (bits : List Decided) (old compared : Traced) → StandsInMore
     → StaysAs old compared → HasGone job number bits old → HasGone job number bits (restored old compared)
 gone_still job number bits old compared law stays gone =
     let paths = (restored old compared).paths in
-    let here = gone.paths.there in
-    let grown = stays.paths.grown in
-    let same : path_in old.paths ≡ path_in paths =
-    one_function (function_of old.paths.dds old.paths.path) (function_of paths.dds paths.path)
-    (λ given. sym (grown.nodes.same old.paths.path here given)) in
+    let grown = grown_still old compared stays in
     record {
       course =
-          subst (λ (path : Function). courses.HasGone job number bits path (restored old compared).course) same
-          gone.course;
-      paths = record {
-        there = grown.nodes.there old.paths.path here;
-        share = record {
-          stands = law old.course.run.space.terms old.paths.shared.terms paths.shared.terms paths.places grown.extends
-              grown.terms gone.paths.share.stands;
-          bits = stays.made;
-        };
-      };
+          subst (λ (path : Function). courses.HasGone job number bits path (restored old compared).course)
+          (path_remains old.paths paths old.paths.path grown gone.paths.there) gone.course;
+      paths = paths_remain old.course.run.space old.paths paths old.paths.places old.paths.path law grown stays.made
+          gone.paths;
     }
 
 -- and one that waits still does
@@ -94,9 +92,5 @@ pub waiting_still : (job : Job) (number : ℕ) (old compared : Traced) (w : Wait
     → StandsInMore → StaysAs old compared → IsWaiting job number old.paths bits w
     → IsWaiting job number (restored old compared).paths bits w
 waiting_still job number old compared w bits law stays waits =
-    waits_on job number old.paths (restored old compared).paths bits w law
-    (record {
-      nodes = stays.paths.grown.nodes;
-      extends = stays.paths.grown.extends;
-      terms = stays.paths.grown.terms;
-    }) stays.made waits
+    waits_on job number old.paths (restored old compared).paths bits w law (grown_still old compared stays) stays.made
+    waits

@@ -5,7 +5,7 @@ use Rattle.mw_explore.specs.Cases.{At}
 use Rattle.mw_explore.specs.Explorers.{Explorer}
 use Rattle.mw_rel.specs.Job.{Job}
 use Rattle.mw_rel.specs.Views.{job_of}
-use Rattle.mw_fork.specs.declared.traced.Traced.{Traced}
+use Rattle.mw_fork.specs.Traces.{Traced}
 use Rattle.mw_fork.specs.declared.starts.Starts.{Starts}
 use Rattle.mw_fork.specs.Traces.{HasGone}
 use Rattle.mw_fork.specs.Forks.{Fork, IsForkOf, fork_of}

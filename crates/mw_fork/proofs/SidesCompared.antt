@@ -15,7 +15,8 @@ use Rattle.mw_symmem.specs.Words.{HaveOwnKinds}
 use Rattle.mw_symboard.specs.Turns.{Symbolic}
 use Rattle.mw_symmach.specs.Turns.{Stepping}
 use Rattle.mw_symmach.specs.Walks.{underway_in}
-use Rattle.mw_rel.specs.CaseWords.{CaseWords, case_words, sides_of, whole}
+use Rattle.mw_rel.specs.CaseWords.{CaseWords, bit_values, case_words, sides_of, whole}
+use Rattle.mw_rel.specs.PathWords.{tree_of}
 use Rattle.mw_rel.specs.Certified.{boundary_at}
 use Rattle.mw_rel.specs.ComparisonWords.{Sides, all_compared, are_alike, compared_in, is_unlike}
 use Rattle.mw_rel.specs.Job.{Job, IsJob}
@@ -30,8 +31,9 @@ use Rattle.mw_fork.specs.Failing.{ComparisonStops, ComparisonsAreWithin, IsFound
 use Rattle.mw_course.specs.Listed.{list_of_space, standing_on}
 use Rattle.mw_fork.proofs.CaseCompared.{IsEnded, found_apart, found_on_path, prefix_of_case, unlike_differs}
 use Rattle.mw_fork.proofs.CaseCompared.{words_compared}
-use Rattle.mw_fork.proofs.Numbered.{AreNumbered}
-use Rattle.mw_fork.proofs.OverCompared.{stops_comparing, within_all, within_none}
+use Rattle.mw_fork.proofs.Budgets.{comparison_stops}
+use Rattle.mw_fork.proofs.Numbered.{AreNumbered, numbered_whole}
+use Rattle.mw_compare.proofs.OverCompared.{stops_comparing, within_all, within_none}
 use Rattle.mw_fork.proofs.Sides.{terms_at_end}
 
 -- both sides, in the words of the case
@@ -99,7 +101,7 @@ pub unlike_within : (job : Job) (number nodes : ℕ) (elements : List ℕ) (bits
     → IsEnded job number elements bits cycles space path board step → boundary_at job board.place.at ≡ Some reached
     → is_unlike reached (ends_of job space board step) ≡ true → ComparisonsAreWithin job number nodes bits
 unlike_within job number nodes elements bits cycles space path board step reached is there unlike =
-    within_none job number nodes bits (ap (λ (w : CaseWords). w.comparisons)
+    within_none (tree_of job number) nodes bits (ap (λ (w : CaseWords). w.comparisons)
     (words_at_end job number elements bits cycles space path board step reached true is there unlike))
 
 pub unlike_found : (job : Job) (number : ℕ) (elements : List ℕ) (bits : List Decided) (cycles : ℕ) (space : Space)
@@ -168,7 +170,7 @@ pub alike_within : (job : Job) (number nodes : ℕ) (elements : List ℕ) (bits 
     step.parts.events
     → ComparisonsAreWithin job number nodes bits
 alike_within job number nodes elements bits cycles old new path board step reached is there alike compared =
-    within_all job number nodes bits old.terms.map new path _ is.stands.space.map
+    within_all (tree_of job number) nodes bits old.terms.map new path _ is.stands.space.map
     (words_at_end job number elements bits cycles old path board step reached false is there alike) is.written
     (at_end job nodes old new path board step reached (Ok None) is.ended.of_board.side compared)
 
@@ -208,7 +210,8 @@ pub alike_stops : (job : Job) (number nodes : ℕ) (elements : List ℕ) (bits :
     → ComparisonStops job number nodes bits stop
 alike_stops job number nodes elements bits cycles old new path board step reached stop law laws is there alike
     compared =
-    stops_comparing job number nodes bits old.terms.map new path _ stop law laws is.stands.space.map
+    comparison_stops job number nodes bits stop (prefix_of_case job number bits is.feasible)
+    (stops_comparing (tree_of job number) nodes bits old.terms.map new path _ stop law
+    (numbered_whole laws job number (bit_values bits)) is.stands.space.map
     (words_at_end job number elements bits cycles old path board step reached false is there alike) is.written
-    (prefix_of_case job number bits is.feasible)
-    (at_end job nodes old new path board step reached (Err stop) is.ended.of_board.side compared)
+    (at_end job nodes old new path board step reached (Err stop) is.ended.of_board.side compared))

@@ -6,7 +6,7 @@ use Rattle.mw_rel.specs.Case.{IsBefore}
 use Rattle.mw_rel.specs.Views.{job_of}
 use Rattle.mw_rel.proofs.Cases.{one_case_is_first}
 use Rattle.mw_ready.proofs.Cases.{case_with, case_without}
-use Rattle.mw_fork.specs.declared.traced.Traced.{Traced}
+use Rattle.mw_fork.specs.Traces.{Traced}
 use Rattle.mw_fork.specs.declared.starts.Starts.{Starts}
 use Rattle.mw_fork.specs.StartCases.{HasGoneThrough, IsCaseAt}
 use Rattle.mw_course.proofs.AnyStart.{some_case as case_at}

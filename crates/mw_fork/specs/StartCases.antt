@@ -7,11 +7,10 @@ use Rattle.mw_rel.specs.Begin.{Begin}
 use Rattle.mw_rel.specs.Case.{IsCase}
 use Rattle.mw_rel.specs.OverBudget.{AreNodesOver}
 use Rattle.mw_rel.specs.Views.{job_of}
-use Rattle.mw_compare.specs.declared.fault.Place.{Place}
+use Rattle.mw_decide.specs.declared.fault.Place.{Place}
 use Rattle.mw_fork.specs.declared.starts.Ended.{Ended}
 use Rattle.mw_fork.specs.declared.starts.Starts.{Starts}
-use Rattle.mw_fork.specs.declared.traced.Traced.{Traced}
-use Rattle.mw_fork.specs.declared.traced.Waiting.{Waiting}
+use Rattle.mw_fork.specs.Traces.{Traced, Waiting}
 use Rattle.mw_course.specs.Courses.{Waits, WaitsOnCourse}
 use Rattle.mw_fork.specs.Failing.{IsFoundOf}
 use Rattle.mw_course.specs.EndsEach.{EndsEach}

@@ -4,13 +4,23 @@ use Rattle.mw_term.specs.declared.decided.Decided.{Decided}
 use Rattle.mw_path.specs.declared.paths.Paths.{Paths}
 use Rattle.mw_path.specs.Paths.{AreMade, StayOnPath, path_in}
 use Rattle.mw_rel.specs.Job.{Job}
-pub use Rattle.mw_compare.specs.SpacePaths.{HavePaths}
+pub use Rattle.mw_decide.specs.SpacePaths.{HavePaths}
 use Rattle.mw_course.specs.Courses as courses
 use Rattle.mw_course.specs.Courses.{IsOtherCourse}
-use Rattle.mw_fork.specs.declared.traced.Traced.{Traced}
-use Rattle.mw_fork.specs.declared.traced.Waiting.{Waiting}
+use Rattle.mw_course.specs.declared.course.Course.{Course}
+use Rattle.mw_decide.specs.declared.traced.Traced as going
+use Rattle.mw_decide.specs.declared.traced.Waiting as waiting
+pub use Rattle.mw_decide.specs.Traces.{over_places, paths_over, traced_over}
 
 -- ---- courses
+
+-- a course with its path
+abbrev pub Traced : Type 0
+Traced = going.Traced Course
+
+-- one that waits, over what all have made
+abbrev pub Waiting : Type 0
+Waiting = waiting.Waiting Course
 
 -- one that is on its way, and waits for no bit
 pub record IsGoing (job : Job) (number : ℕ) (bits : List Decided) (traced : Traced) : Type 0 where
@@ -33,10 +43,6 @@ pub record StaysAs (old new : Traced) : Type 0 where
   pub cycles : new.course.cycles ≡ old.course.cycles
   pub step : new.course.step ≡ old.course.step
 
--- these paths, where what was written stands at these places
-abbrev pub over_places : Paths → List ℕ → Paths
-over_places paths places = record { dds = paths.dds; shared = paths.shared; places = places; path = paths.path }
-
 -- ---- those that wait
 
 -- one was let wait by a course on this path, with 1 for the bit that is waited for
@@ -44,14 +50,6 @@ pub record IsOther (traced : Traced) (path : ℕ) (w : Waiting) : Type 0 where
   pub course : IsOtherCourse traced.course w.course
   pub places : w.places ≡ traced.paths.places
   pub path_is : w.path ≡ path
-
--- the paths of one that waits, over what was made
-abbrev pub paths_over : Paths → Waiting → Paths
-paths_over made w = record { dds = made.dds; shared = made.shared; places = w.places; path = w.path }
-
--- and its course
-abbrev pub traced_over : Paths → Waiting → Traced
-traced_over made w = record { course = w.course; paths = paths_over made w }
 
 -- it has come along these bits
 abbrev pub IsWaiting : Job → (number : ℕ) → Paths → (bits : List Decided) → Waiting → Type 0

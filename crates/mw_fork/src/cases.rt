@@ -6,36 +6,42 @@ ghost use Rattle.mw_fork.specs.StartCases.{Asks, IsEndAt, HasCome, HasGoneThroug
 ghost use Rattle.mw_fork.specs.StartCases.{IsFoundAt, IsOverAt, IsWaitingAt};
 ghost use Rattle.mw_fork.specs.Traces.{IsOther};
 
-use crate::decide::decide;
 use crate::found::differing;
 use crate::starts::{Ended, Starts};
-use crate::traced::{Traced, Waiting};
+use crate::traced::{first_course, other_course};
 use mw_base::NoMemory;
-use mw_compare::{Place, RunStop};
+use mw_course::Course;
 use mw_dd::Dd;
+use mw_decide::{Place, RunStop, Traced, Waiting, decide};
 use mw_explore::{CaseTree, Choice};
-use mw_rel::Begin;
+use mw_macro::words_are_numbered;
+use mw_rel::{Begin, words_of_cases_are_numbered};
+use mw_symboard::words_of_cycles_are_numbered;
 use mw_symmach::steps_go_along;
 use mw_symmem::Turn;
 use mw_term::{DecidedKind, ShortcutBook, Term, stands_with_more};
 use std::alloc::Global;
 
 /// The course that waits with 1 for the bit that is waited for, where there is a path for that.
-fn other_of(alloc: Global, traced: &Traced, other: Option<Dd>) -> Result<Option<Waiting>, NoMemory>
+fn other_of(
+    alloc: Global,
+    traced: &Traced<Course>,
+    other: Option<Dd>,
+) -> Result<Option<Waiting<Course>>, NoMemory>
     requires { MayBeGiven traced.now.course.run.board traced.now.course.step }
     ensures same { IfOk result (λ waiting. is_some waiting ≡ is_some other) }
     ensures other { IfOk result (λ waiting. IfSome waiting (λ w. IfSome other (λ path. IsOther traced.now path w))) }
 {
     match other {
-        Some(path) => Ok(Some(traced.other(alloc, path)?)),
+        Some(path) => Ok(Some(other_course(alloc, traced, path)?)),
         None => Ok(None),
     }
 }
 
 impl<'a> CaseTree for Starts<'a> {
-    type Course = Traced;
+    type Course = Traced<Course>;
 
-    type Waiting = Waiting;
+    type Waiting = Waiting<Course>;
 
     type End = Ended;
 
@@ -63,12 +69,12 @@ impl<'a> CaseTree for Starts<'a> {
 
     fn are_in_order(&self) {}
 
-    fn begin(&self, alloc: Global) -> Result<Traced, NoMemory> {
-        let course = Traced::new(alloc, self.job, self.boundary)?;
+    fn begin(&self, alloc: Global) -> Result<Traced<Course>, NoMemory> {
+        let course = first_course(alloc, self.job, self.boundary)?;
         Ok(course)
     }
 
-    fn turn(&self, alloc: Global, course: &mut Traced) -> Result<Turn, NoMemory> {
+    fn turn(&self, alloc: Global, course: &mut Traced<Course>) -> Result<Turn, NoMemory> {
         let turn = course.course.turn(alloc, self.job, self.boundary)?;
         Ok(turn)
     }
@@ -76,20 +82,22 @@ impl<'a> CaseTree for Starts<'a> {
     fn decide(
         &self,
         alloc: Global,
-        course: &mut Traced,
-        kind: DecidedKind,
+        course: &mut Traced<Course>,
+        _kind: DecidedKind,
         term: Term,
         book: &ShortcutBook,
-    ) -> Result<Choice<Waiting>, RunStop> {
+    ) -> Result<Choice<Waiting<Course>>, RunStop> {
         // Laws for the proof: what stands in a table goes on to stand there when more is in it, and a step goes along
-        // the bits that are given to it.
+        // the bits that are given to it; and each term of the word list that is no constant has a word.
         stands_with_more();
         steps_go_along();
+        words_of_cases_are_numbered();
+        words_of_cycles_are_numbered();
+        words_are_numbered();
         let decision = decide(
             alloc,
             &course.course.run.space,
             &mut course.paths,
-            kind,
             term,
             self.nodes,
             book,
@@ -102,21 +110,21 @@ impl<'a> CaseTree for Starts<'a> {
         })
     }
 
-    fn end(&self, course: &Traced) -> Ended {
+    fn end(&self, course: &Traced<Course>) -> Ended {
         Ended {
             cycles: course.course.cycles,
             late: course.course.step.is_none(),
         }
     }
 
-    fn go_on(&self, waiting: Waiting, made: Traced) -> Traced {
+    fn go_on(&self, waiting: Waiting<Course>, made: Traced<Course>) -> Traced<Course> {
         waiting.over(made.into_paths())
     }
 
     fn compare(
         &self,
         alloc: Global,
-        course: &mut Traced,
+        course: &mut Traced<Course>,
         book: &ShortcutBook,
     ) -> Result<Option<Begin>, RunStop> {
         differing(alloc, self.job, self.boundary, course, self.nodes, book)

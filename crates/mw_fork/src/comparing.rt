@@ -25,11 +25,11 @@ ghost use Rattle.mw_fork.specs.Failing.{ComparisonStops, ComparisonsAreWithin, I
 ghost use Rattle.mw_fork.specs.Traces.{HasGone, HavePaths, StaysAs};
 ghost use Rattle.mw_path.specs.Paths.{AreMade, StayOnPath, path_in};
 
-use crate::traced::Traced;
 use mw_base::NoMemory;
 use mw_blast::over_have_numbers;
-use mw_compare::{RunStop, alike, apart, compare_events, compare_memory};
-use mw_course::{Run, boundary_at};
+use mw_compare::{alike, apart, compare_events, compare_memory};
+use mw_course::{Course, Run, boundary_at};
+use mw_decide::{RunStop, Traced};
 use mw_macro::words_are_numbered;
 use mw_path::Paths;
 use mw_rel::{Job, Line, words_of_cases_are_numbered};
@@ -281,7 +281,7 @@ pub(crate) fn first_failing(
     alloc: Global,
     job: &Job,
     boundary: usize,
-    traced: &mut Traced,
+    traced: &mut Traced<Course>,
     nodes: u32,
     book: &ShortcutBook,
 ) -> Result<Option<Assignment>, RunStop>

@@ -3,15 +3,13 @@ ghost use Rattle.std.specs.Prelude.{◌≡◌, ℕ, List, Option, IfErr, IfOk, O
 ghost use Rattle.mw_term.specs.declared.decided.Decided.{Decided};
 ghost use Rattle.mw_rel.specs.Views.{job_of};
 ghost use Rattle.mw_fork.specs.Begins.{IsFirstOfCase, IsOfCase};
-ghost use Rattle.mw_fork.specs.Traces.{HasGone, IsWaiting, StaysAs, over_places};
+ghost use Rattle.mw_fork.specs.Traces.{HasGone, IsWaiting, StaysAs, over_places, Waiting};
 ghost use Rattle.mw_fork.specs.Failing.{ComparisonStops, IsFoundOf};
-ghost use Rattle.mw_fork.specs.declared.traced.Waiting as waits;
 
 use crate::comparing::first_failing;
-use crate::traced::Traced;
 use mw_base::NoMemory;
-use mw_compare::RunStop;
-use mw_course::begin_of;
+use mw_course::{Course, begin_of};
+use mw_decide::{RunStop, Traced};
 use mw_rel::{Begin, Job};
 use mw_space::Space;
 use mw_term::{Places, ShortcutBook, stands_with_more};
@@ -23,7 +21,7 @@ pub(crate) fn first_start(
     alloc: Global,
     job: &Job,
     boundary: usize,
-    traced: &Traced,
+    traced: &Traced<Course>,
 ) -> Result<Begin, NoMemory>
     requires gone { (bits : List Decided) × HasGone (job_of job.now) boundary bits traced.now }
     ensures of_case { IfOk result (λ begin. (bits : List Decided)
@@ -43,7 +41,7 @@ fn sought(
     alloc: Global,
     job: &Job,
     boundary: usize,
-    traced: &mut Traced,
+    traced: &mut Traced<Course>,
     nodes: u32,
     book: &ShortcutBook,
 ) -> Result<Option<Begin>, RunStop>
@@ -65,7 +63,7 @@ fn sought(
 }
 
 /// Puts back what a course worked on, and where that stands.
-fn restore(traced: &mut Traced, space: Space, places: Places)
+fn restore(traced: &mut Traced<Course>, space: Space, places: Places)
     ensures space { traced.new.course.run.space ≡ space }
     ensures paths { traced.new.paths ≡ over_places traced.old.paths places }
     ensures board { traced.new.course.run.board ≡ traced.old.course.run.board }
@@ -83,14 +81,14 @@ pub(crate) fn differing(
     alloc: Global,
     job: &Job,
     boundary: usize,
-    traced: &mut Traced,
+    traced: &mut Traced<Course>,
     nodes: u32,
     book: &ShortcutBook,
 ) -> Result<Option<Begin>, RunStop>
     requires gone { (bits : List Decided) × HasGone (job_of job.now) boundary bits traced.old }
     ensures gone { OnOk result ((bits : List Decided) → HasGone (job_of job.now) boundary bits traced.old
         → HasGone (job_of job.now) boundary bits traced.new) }
-    ensures waiting { OnOk result ((w : waits.Waiting) (bits : List Decided)
+    ensures waiting { OnOk result ((w : Waiting) (bits : List Decided)
         → IsWaiting (job_of job.now) boundary traced.old.paths bits w
         → IsWaiting (job_of job.now) boundary traced.new.paths bits w) }
     ensures found { IfOk result (λ found. (bits : List Decided) → HasGone (job_of job.now) boundary bits traced.old

@@ -6,7 +6,6 @@
 mod budget;
 mod cases;
 mod comparing;
-mod decide;
 mod fault;
 mod fork;
 mod found;

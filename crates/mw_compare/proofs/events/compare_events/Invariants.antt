@@ -5,7 +5,7 @@ use Rattle.mw_term.specs.declared.kinds.WordKind.TheVariants.{Probe}
 use Rattle.mw_term.specs.Cofactors.{Agree}
 use Rattle.mw_term.specs.WordList.{term_of}
 use Rattle.mw_compare.specs.Comparing.{AreOneOn, ArePutOut, GoesComparing}
-use Rattle.mw_compare.specs.SpacePaths.{HavePaths}
+use Rattle.mw_decide.specs.SpacePaths.{HavePaths}
 use Rattle.mw_path.specs.Paths.{path_in}
 use Rattle.mw_path.specs.Paths.{StayOnPath}
 use Rattle.mw_compare.proofs.CameTo.{CameTo}

@@ -1,7 +1,7 @@
 use Rattle.std.proofs.Common.{ap, subst, ◌∙◌}
 use Rattle.mw_rel.specs.Views.{job_of}
 use Rattle.mw_fork.specs.Traces.{HasGone, IsWaiting, over_places}
-use Rattle.mw_fork.specs.declared.traced.Traced.{Traced}
+use Rattle.mw_fork.specs.Traces.{Traced}
 use Rattle.mw_fork.proofs.Restored.{gone_still, is_restored, waiting_still}
 use Rattle.mw_fork.proofs.found.differing.Goals as goal
 

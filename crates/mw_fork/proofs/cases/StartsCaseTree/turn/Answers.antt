@@ -1,21 +1,9 @@
-use Rattle.mw_path.proofs.Sharing.{shared_with_more}
+use Rattle.mw_decide.proofs.Remaining.{paths_later}
 use Rattle.mw_path.specs.Paths.{path_in}
 use Rattle.mw_rel.specs.Views.{job_of}
-use Rattle.mw_space.specs.declared.space.Space.{Space}
 use Rattle.mw_course.proofs.Followed.{asked_on, gone}
-use Rattle.mw_symmem.specs.Workspace.{IsLater}
-use Rattle.mw_path.specs.declared.paths.Paths.{Paths}
-use Rattle.mw_fork.specs.Traces.{HavePaths}
 use Rattle.mw_fork.proofs.StartLaws.{gone_is_case}
 use Rattle.mw_fork.proofs.cases.StartsCaseTree.turn.Goals as goal
-
--- the paths are right for what was written more
-paths_later : (old new : Space) (paths : Paths) → IsLater old.terms new.terms → HavePaths old paths
-    → HavePaths new paths
-paths_later old new paths later have = record {
-  there = have.there;
-  share = shared_with_more old.terms new.terms paths.places paths.shared paths.dds later.extends later.keeps have.share;
-}
 
 pub returns-clause-asks : goal.returns-clause-asks
 returns-clause-asks c = λ kind term is bits has.

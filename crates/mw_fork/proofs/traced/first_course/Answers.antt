@@ -11,7 +11,7 @@ use Rattle.mw_rel.specs.Views.{job_of}
 use Rattle.mw_course.specs.declared.run.Run.{Run}
 use Rattle.mw_course.specs.Courses.{IsOnCourse}
 use Rattle.mw_course.proofs.Courses.{going_map}
-use Rattle.mw_fork.proofs.traced.Traced.new.Goals as goal
+use Rattle.mw_fork.proofs.traced.first_course.Goals as goal
 
 -- what a course works on has a map
 map_in : (job : Job) (number : ℕ) (elements : List ℕ) (bits : List Decided) (path : Function) (run : Run)

@@ -22,7 +22,7 @@ use Rattle.mw_term.proofs.Tables.{widths_begin, widths_count}
 use Rattle.mw_dd.proofs.Cofactors.{more-same}
 use Rattle.mw_blast.specs.Causes.{IsOneOver, IsOver}
 use Rattle.mw_symmem.proofs.Growth.{op_stays}
-use Rattle.mw_fork.specs.Comparing.{IsFrontOf}
+use Rattle.mw_compare.specs.Comparing.{IsFrontOf}
 use Rattle.mw_path.proofs.Triples.{made_same}
 
 -- ---- lists that are one

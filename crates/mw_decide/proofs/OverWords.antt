@@ -1,4 +1,4 @@
--- What is over a budget of nodes, said of the word list of the bits that a run has met.
+-- What is over a budget of nodes, said of the word list along decided bits.
 use Rattle.std.proofs.Common.{◌≡◌, inl, inr, ℕ, zero, suc, ◌+◌, ◌<◌, List, [], ◌∷◌, length, append-nil, ap, sym, subst}
 use Rattle.std.proofs.Common.{◌∙◌, arith, refl}
 use Rattle.std.specs.Option.{unwrap_or}
@@ -6,15 +6,14 @@ use Rattle.std.specs.Prelude.{Bool, true, false, IsSome, Option, Some, None, opt
 use Rattle.std.specs.Prelude.{slice_index_or}
 use Rattle.std.proofs.lemmas.Bool.{eqb-true}
 use Rattle.std.proofs.lemmas.Option.{same_Some}
-use Rattle.mw_ready.proofs.Alike.{prefix_with}
 use Rattle.mw_term.specs.declared.decided.Decided.{Decided}
-use Rattle.mw_term.specs.Cofactors.{Agree, HasMoreCofactors}
+use Rattle.mw_term.specs.Cofactors.{HasMoreCofactors}
 use Rattle.mw_term.specs.declared.word.Word.{Word}
 use Rattle.mw_term.specs.Functions.{Function, Triple}
 use Rattle.mw_term.specs.Numbered.{IsNumbered}
 use Rattle.mw_term.specs.Rows.{bit}
 use Rattle.mw_term.specs.Table.{Table, table_of}
-use Rattle.mw_term.specs.WordList.{WordList, number_from, word_number}
+use Rattle.mw_term.specs.WordList.{WordList, number_from, table_in, word_number}
 use Rattle.mw_dd.proofs.Cofactors.{more-same}
 use Rattle.mw_blast.specs.declared.fault.BlastFault.{BlastFault}
 use Rattle.mw_blast.specs.declared.fault.BlastFault.TheVariants as faults
@@ -22,24 +21,19 @@ use Rattle.mw_blast.specs.Causes.{IsOver}
 use Rattle.mw_blast.specs.Numbers.{OverHaveNumbers}
 use Rattle.mw_blast.specs.Shared.{IsWrittenSplitCause}
 use Rattle.mw_blast.specs.Splits.{IsPathOver}
-use Rattle.mw_symmem.specs.Listed.{list_in}
+use Rattle.mw_space.specs.declared.space.Space.{Space}
+use Rattle.mw_space.specs.Spaces.{list_of_space}
 use Rattle.mw_symmem.proofs.Lists.{behind}
 use Rattle.mw_rel.specs.TreeOperations.IsOperation.{of_path, of_row}
-use Rattle.mw_rel.specs.Case.{IsFeasiblePrefix}
-use Rattle.mw_rel.specs.CaseWords.{CaseWords, case_words}
-use Rattle.mw_rel.specs.Job.{Job}
-use Rattle.mw_rel.specs.OverBudget.{AreNodesOver}
-use Rattle.mw_rel.specs.PathWords.{IsWord, StandsAtWord, next_bit, path_of, path_word, table_with}
+use Rattle.mw_rel.specs.CaseWords.{CaseWords}
+use Rattle.mw_rel.specs.TreePaths.{IsWord, StandsAtWord, next_bit, path_along, path_word}
 use Rattle.mw_rel.specs.TreePaths.StandsAtWord.{at_constant, at_word}
-use Rattle.mw_fork.specs.Faults.{RunStop}
+use Rattle.mw_rel.specs.WordTree.{WordTree}
 use Rattle.mw_explore.specs.declared.fault.Fault.TheVariants as stops
-use Rattle.mw_fork.specs.Comparing.{IsFrontOf}
-use Rattle.mw_course.specs.Listed.{AsksFor}
-use Rattle.mw_course.specs.OnWay.{IsOnWay}
-use Rattle.mw_course.specs.Starts.{Ground, HaveStarts}
-use Rattle.mw_fork.specs.Stops.{StopsBy}
-use Rattle.mw_compare.proofs.GoingOn.{front_itself}
-use Rattle.mw_fork.proofs.WordPaths.{word_same}
+use Rattle.mw_decide.specs.Decisions.{IsListed, IsOperationOver, StopsIn}
+use Rattle.mw_decide.specs.Faults.{RunStop}
+use Rattle.mw_decide.specs.Fronts.{IsFrontOf}
+use Rattle.mw_decide.proofs.WordPaths.{word_same}
 
 -- ---- numbers of words
 
@@ -68,6 +62,15 @@ number_is_from (w ∷ rest) first number term is =
       )
       at false same found further = from_next w rest first number term (further found)
 
+-- a list is the beginning of itself
+pub front_itself : (l : WordList) → IsFrontOf l l
+front_itself l = record {
+  ops = [];
+  words = [];
+  ops_are = sym (append-nil l.ops);
+  words_are = sym (append-nil l.words);
+}
+
 -- the number that a list gives is that of a word with the term
 pub number_is_word : (l : WordList) (number term : ℕ) → word_number l.words term ≡ Some number → IsWord l number term
 number_is_word l number term is = number_is_from l.words 1 number term is
@@ -92,10 +95,6 @@ stands_at t l term (Some number) same =
 
 -- ---- operations that are over
 
--- an operation at the number of a term, of these bits
-abbrev IsOverAt : Job → (number nodes : ℕ) → (bits : List Decided) → Ground → (term j : ℕ) → Type 0
-IsOverAt job number nodes bits g term j = AreNodesOver job number nodes bits (number_or_last g.words term) j
-
 -- a word of the beginning of a list is one of the list
 pub word_front : (front all : WordList) (number term : ℕ) → IsFrontOf front all → IsWord front number term
     → IsWord all number term
@@ -110,16 +109,15 @@ word_front front all number term is word =
           ∙ same
 
 -- one of the term table's row, at the number that the beginning of the list gives
-pub over_at : (job : Job) (number nodes : ℕ) (bits : List Decided) (front : WordList) (term j : ℕ)
-    → IsFrontOf front (case_words job number bits).list → IsSome (word_number front.words term)
-    → IsFeasiblePrefix job number bits → IsOver (table_with job (case_words job number bits)) term j nodes
-    → AreNodesOver job number nodes bits (number_or_last front.words term) j
-over_at job number nodes bits front term j is some feasible over = record {
-  feasible = feasible;
+pub over_at : (tree : WordTree) (nodes : ℕ) (bits : List Decided) (front : WordList) (term j : ℕ)
+    → IsFrontOf front (tree.words bits).list → IsSome (word_number front.words term)
+    → IsOver (table_in tree.map (tree.words bits).list) term j nodes
+    → IsOperationOver tree nodes bits (number_or_last front.words term) j
+over_at tree nodes bits front term j is some over = record {
   operation = over.over.1;
   listed = of_row (record {
     term = term;
-    at = word_front front (case_words job number bits).list (number_or_last front.words term) term is
+    at = word_front front (tree.words bits).list (number_or_last front.words term) term is
         (has_word front term (word_number front.words term) refl some);
     op = over.op;
     its = over.its;
@@ -128,62 +126,61 @@ over_at job number nodes bits front term j is some feasible over = record {
   over = over.over.4;
 }
 
+-- an operation at the number of a term in a space, of the list along decided bits
+abbrev IsOverAt : WordTree → (nodes : ℕ) → (bits : List Decided) → Space → (term j : ℕ) → Type 0
+IsOverAt tree nodes bits space term j = IsOperationOver tree nodes bits (number_or_last space.words term) j
+
 -- one of the term table's row
-row_over : (job : Job) (number nodes : ℕ) (bits : List Decided) (g : Ground) (term named j : ℕ) → OverHaveNumbers
-    → IsNumbered (case_words job number bits).list → g.table.map ≡ job.board.map_entries
-    → AsksFor job number bits g term
-    → IsFeasiblePrefix job number bits → IsOver g.table named j nodes → IsOverAt job number nodes bits g named j
-row_over job number nodes bits g term named j law numbered map asks feasible over =
-    let l = list_in g.table g.words g.memory in
-    let same : (case_words job number bits).list ≡ l = ap (λ (w : CaseWords). w.list) asks in
-    let table : table_with job (case_words job number bits) ≡ g.table =
-    ap (λ (w : CaseWords). table_with job w) asks ∙ ap (λ (entries : List ℕ). table_of g.table.ops entries) (sym map) in
-    over_at job number nodes bits l named j (subst (λ (x : WordList). IsFrontOf l x) (sym same) (front_itself l))
-    (law g.table.map l named j nodes (subst IsNumbered same numbered) over) feasible
+row_over : (tree : WordTree) (nodes : ℕ) (bits : List Decided) (space : Space) (path : Function) (term named j : ℕ)
+    → OverHaveNumbers → IsNumbered (tree.words bits).list → IsListed tree bits space path term
+    → IsOver space.terms named j nodes → IsOverAt tree nodes bits space named j
+row_over tree nodes bits space path term named j law numbered listed over =
+    let l = list_of_space space in
+    let same : (tree.words bits).list ≡ l = ap (λ (w : CaseWords). w.list) listed.asks in
+    let table : table_in tree.map (tree.words bits).list ≡ space.terms =
+    ap (λ (w : CaseWords). table_in tree.map w.list) listed.asks
+    ∙ ap (λ (entries : List ℕ). table_of space.terms.ops entries) (sym listed.map) in
+    over_at tree nodes bits l named j (subst (λ (x : WordList). IsFrontOf l x) (sym same) (front_itself l))
+    (law space.terms.map l named j nodes (subst IsNumbered same numbered) over)
     (subst (λ (t : Table). IsOver t named j nodes) (sym table) over)
 
 -- that of a path word for one value of the bit
-value_over : (job : Job) (number nodes : ℕ) (bits : List Decided) (g : Ground) (path : Function)
-    (term : ℕ) (value : Bool)
-    → g.table.map ≡ job.board.map_entries → AsksFor job number bits g term → Agree path (path_of job number bits)
-    → IsFeasiblePrefix job number bits → HasMoreCofactors (path_word path (bit g.table term 0) value) nodes
-    → IsOverAt job number nodes bits g term 0
-value_over job number nodes bits g path term value map asks written feasible over = record {
-  feasible = feasible;
-  operation = path_word (path_of job number bits) (next_bit job number bits) value;
+value_over : (tree : WordTree) (nodes : ℕ) (bits : List Decided) (space : Space) (path : Function) (term : ℕ) (value : Bool)
+    → IsListed tree bits space path term → HasMoreCofactors (path_word path (bit space.terms term 0) value) nodes
+    → IsOverAt tree nodes bits space term 0
+value_over tree nodes bits space path term value listed over = record {
+  operation = path_word (path_along tree bits) (next_bit tree bits) value;
   listed = of_path (record {
     before = bits;
     rest = [];
     bits_are = sym (append-nil bits);
     term = term;
-    asked = ap (λ (w : CaseWords). w.asked) asks;
-    at = subst (λ (l : WordList).
-        StandsAtWord (table_with job (case_words job number bits)) l l term (number_or_last g.words term))
-        (sym (ap (λ (w : CaseWords). w.list) asks))
-        (stands_at _ (list_in g.table g.words g.memory) term (word_number g.words term) refl);
+    asked = ap (λ (w : CaseWords). w.asked) listed.asks;
+    at = subst (λ (l : WordList). StandsAtWord (table_in tree.map (tree.words bits).list) l l term
+        (number_or_last space.words term)) (sym (ap (λ (w : CaseWords). w.list) listed.asks))
+        (stands_at _ (list_of_space space) term (word_number space.words term) refl);
     lowest = refl;
     value = value;
     is = refl;
   });
-  over = more-same _ _ nodes (word_same job number bits g path term value map asks written) over;
+  over = more-same _ _ nodes (word_same tree bits space path term value listed) over;
 }
 
 -- one of both path words
-path_over : (job : Job) (number nodes : ℕ) (bits : List Decided) (g : Ground) (path : Function) (term : ℕ)
-    → g.table.map ≡ job.board.map_entries → AsksFor job number bits g term → Agree path (path_of job number bits)
-    → IsFeasiblePrefix job number bits → IsPathOver path (bit g.table term 0) nodes
-    → IsOverAt job number nodes bits g term 0
-path_over job number nodes bits g path term map asks written feasible over =
+path_over : (tree : WordTree) (nodes : ℕ) (bits : List Decided) (space : Space) (path : Function) (term : ℕ)
+    → IsListed tree bits space path term → IsPathOver path (bit space.terms term 0) nodes
+    → IsOverAt tree nodes bits space term 0
+path_over tree nodes bits space path term listed over =
     at over.0 over.1 over.2 over.3 over.4 where
       at : (k : ℕ) (u : Triple) → k < 2
           → slice_index_or
-          (path_word path (bit g.table term 0) false ∷ path_word path (bit g.table term 0) true ∷ []) k u ≡ u
-          → HasMoreCofactors u nodes → IsOverAt job number nodes bits g term 0
+          (path_word path (bit space.terms term 0) false ∷ path_word path (bit space.terms term 0) true ∷ []) k u ≡ u
+          → HasMoreCofactors u nodes → IsOverAt tree nodes bits space term 0
       at zero u inside is more =
-          value_over job number nodes bits g path term false map asks written feasible
+          value_over tree nodes bits space path term false listed
           (subst (λ (t : Triple). HasMoreCofactors t nodes) (sym is) more)
       at (suc zero) u inside is more =
-          value_over job number nodes bits g path term true map asks written feasible
+          value_over tree nodes bits space path term true listed
           (subst (λ (t : Triple). HasMoreCofactors t nodes) (sym is) more)
       at (suc (suc k)) u inside is more = absurd (omega arith)
 
@@ -196,26 +193,20 @@ pub record Tells (words : List Word) (fault : BlastFault) (stop : RunStop) : Typ
   pub none : fault ≡ faults.NoMemory → stop ≡ stops.NoMemory
 
 -- a run whose path wasn't split stops by that
-pub stops_by : (job : Job) (number nodes : ℕ) (g : Ground) (bits : List Decided) (places : List ℕ)
-    (path : Function) (term : ℕ) (fault : BlastFault) (stop : RunStop) → OverHaveNumbers
-    → IsNumbered (case_words job number bits).list
-    → HaveStarts job number g → IsOnWay job number g bits path → AsksFor job number bits g term
-    → IsWrittenSplitCause g.table places path term nodes fault → Tells g.words fault stop
-    → StopsBy job number nodes bits stop
-stops_by job number nodes g bits places path term (faults.Over named j) stop law numbered starts on asks cause tells =
-    let map = on.stands.space.map in
-    let feasible = prefix_with job number bits on.feasible in
+pub stops_in : (tree : WordTree) (nodes : ℕ) (bits : List Decided) (space : Space) (places : List ℕ) (path : Function)
+    (term : ℕ) (fault : BlastFault) (stop : RunStop) → OverHaveNumbers → IsNumbered (tree.words bits).list
+    → IsListed tree bits space path term → IsWrittenSplitCause space.terms places path term nodes fault
+    → Tells space.words fault stop → StopsIn tree nodes bits stop
+stops_in tree nodes bits space places path term (faults.Over named j) stop law numbered listed cause tells =
     rw (tells.over named j refl) (
-    record {
-      asks = rw (ap (λ (w : CaseWords). w.asked) asks) refl;
-      over = elim cause [
-        | inl h ↦ row_over job number nodes bits g term named j law numbered map asks feasible h.over
+      rw (ap (λ (w : CaseWords). w.asked) listed.asks) refl,
+      elim cause [
+        | inl h ↦ row_over tree nodes bits space path term named j law numbered listed h.over
         | inr h ↦
-            subst (λ (x : ℕ). IsOverAt job number nodes bits g x j) (sym h.0)
-            (subst (λ (x : ℕ). IsOverAt job number nodes bits g term x) (sym h.1)
-            (path_over job number nodes bits g path term map asks on.written feasible h.2))
-      ];
-    }
+            subst (λ (x : ℕ). IsOverAt tree nodes bits space x j) (sym h.0)
+            (subst (λ (x : ℕ). IsOverAt tree nodes bits space term x) (sym h.1)
+            (path_over tree nodes bits space path term listed h.2))
+      ],
     )
-stops_by job number nodes g bits places path term faults.NoMemory stop law numbered starts on asks cause tells =
+stops_in tree nodes bits space places path term faults.NoMemory stop law numbered listed cause tells =
     rw (tells.none refl) tt

@@ -1,0 +1,5 @@
+pub mod Decisions
+pub mod Faults
+pub mod Fronts
+pub mod SpacePaths
+pub mod Traces
