@@ -13,7 +13,7 @@ ghost use Rattle.mw_explore.specs.declared.way.Kept as ways;
 use crate::fault::Fault;
 use crate::stage::{Stage, leave, stand_at};
 use crate::trail::Trail;
-use crate::tree::CaseTree;
+use crate::tree::{CaseTree, ComparedTree};
 use crate::way::Way;
 use mw_base::NoMemory;
 use mw_symmem::Turn;
@@ -190,7 +190,7 @@ fn halt_at<P: Drop>(alloc: Global, way: &Way, fault: Fault<P>) -> Fault<Halt<P>>
 }
 
 /// Compares the case at which one stands.
-fn compare_at<T: CaseTree>(
+fn compare_at<T: ComparedTree>(
     alloc: Global,
     tree: &T,
     stage: &mut Stage<T::Course>,
@@ -312,6 +312,19 @@ impl<T: CaseTree> Explorer<T> {
         Ok(Some(Case { prefix, end }))
     }
 
+    /// The course that has gone through the case given last. A case was given last.
+    pub fn course(&self) -> &T::Course
+        requires { (last : List Decided) × (self.now.at ≡ At last) }
+        ensures { (last : List Decided) → self.now.at ≡ At last → T.has_gone self.now.tree result.now last }
+    {
+        match &self.stage {
+            Stage::At(course) => course,
+            _ => unreachable!(),
+        }
+    }
+}
+
+impl<T: ComparedTree> Explorer<T> {
     /// What is found where the case given last is compared. A case was given last.
     ///
     /// # Errors
@@ -341,17 +354,6 @@ impl<T: CaseTree> Explorer<T> {
                 leave(&mut self.stage);
                 Err(halt_at(alloc, &self.trail.way, fault))
             }
-        }
-    }
-
-    /// The course that has gone through the case given last. A case was given last.
-    pub fn course(&self) -> &T::Course
-        requires { (last : List Decided) × (self.now.at ≡ At last) }
-        ensures { (last : List Decided) → self.now.at ≡ At last → T.has_gone self.now.tree result.now last }
-    {
-        match &self.stage {
-            Stage::At(course) => course,
-            _ => unreachable!(),
         }
     }
 }

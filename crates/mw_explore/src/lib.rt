@@ -11,4 +11,4 @@ mod way;
 
 pub use explorer::{Case, Explorer, Halt};
 pub use fault::Fault;
-pub use tree::{CaseTree, Choice};
+pub use tree::{CaseTree, Choice, ComparedTree};

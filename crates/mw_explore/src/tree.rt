@@ -37,10 +37,7 @@ pub trait CaseTree: Drop {
     /// What is said of a case that was gone through.
     type End: Drop;
 
-    /// What is found where a case is compared.
-    type Found: Drop;
-
-    /// Where a course can't go on, or a case can't be compared.
+    /// Where a course can't go on.
     type Place: Drop;
 
     /// The bits are those of a case.
@@ -63,12 +60,6 @@ pub trait CaseTree: Drop {
 
     /// A course can't go on behind these bits: something is over its budget there, or isn't known.
     ghost is_over: { Self → (bits : List Decided) → Self.Place → Type 0 };
-
-    /// This is found, or nothing is, where the case is compared.
-    ghost is_found: { Self → (bits : List Decided) → Option Self.Found → Type 0 };
-
-    /// The case can't be compared: something is over its budget there, or isn't known.
-    ghost is_comparison_over: { Self → (bits : List Decided) → Self.Place → Type 0 };
 
     /// A law for the proof: there is a case, and of two cases one comes before the other.
     fn are_in_order(&self)
@@ -137,6 +128,19 @@ pub trait CaseTree: Drop {
         ensures come { (bits : List Decided) → is_waiting self.now made waiting bits → has_come self.now result bits }
         ensures waiting { (w : Self.Waiting) (bits : List Decided)
             → is_waiting self.now made w bits → is_waiting self.now result w bits };
+}
+
+/// A tree whose cases are compared, each at its end. Where a case can't be compared is a place as where a course can't go
+/// on is.
+pub trait ComparedTree: CaseTree {
+    /// What is found where a case is compared.
+    type Found: Drop;
+
+    /// This is found, or nothing is, where the case is compared.
+    ghost is_found: { Self → (bits : List Decided) → Option Self.Found → Type 0 };
+
+    /// The case can't be compared: something is over its budget there, or isn't known.
+    ghost is_comparison_over: { Self → (bits : List Decided) → Self.Place → Type 0 };
 
     /// Compares the case that was gone through. The course has gone through it still, and those that wait still do;
     /// what all share may have grown.
@@ -150,13 +154,13 @@ pub trait CaseTree: Drop {
         course: &mut Self::Course,
         book: &ShortcutBook,
     ) -> Result<Option<Self::Found>, Fault<Self::Place>>
-        requires { (bits : List Decided) × has_gone self.now course.old bits }
+        requires { (bits : List Decided) × Self.has_gone self.now course.old bits }
         ensures gone { OnOk result ((bits : List Decided)
-            → has_gone self.now course.old bits → has_gone self.now course.new bits) }
+            → Self.has_gone self.now course.old bits → Self.has_gone self.now course.new bits) }
         ensures waiting { OnOk result ((w : Self.Waiting) (bits : List Decided)
-            → is_waiting self.now course.old w bits → is_waiting self.now course.new w bits) }
+            → Self.is_waiting self.now course.old w bits → Self.is_waiting self.now course.new w bits) }
         ensures found { IfOk result (λ found. (bits : List Decided)
-            → has_gone self.now course.old bits → is_found self.now bits found) }
+            → Self.has_gone self.now course.old bits → is_found self.now bits found) }
         ensures over { IfErr result (λ fault. (place : Self.Place) → fault ≡ faults.Over place
-            → (bits : List Decided) → has_gone self.now course.old bits → is_comparison_over self.now bits place) };
+            → (bits : List Decided) → Self.has_gone self.now course.old bits → is_comparison_over self.now bits place) };
 }

@@ -13,7 +13,7 @@ use mw_base::NoMemory;
 use mw_course::Course;
 use mw_dd::Dd;
 use mw_decide::{Place, RunStop, Traced, Waiting, decide};
-use mw_explore::{CaseTree, Choice};
+use mw_explore::{CaseTree, Choice, ComparedTree};
 use mw_macro::words_are_numbered;
 use mw_rel::{Begin, words_of_cases_are_numbered};
 use mw_symboard::words_of_cycles_are_numbered;
@@ -45,8 +45,6 @@ impl<'a> CaseTree for Starts<'a> {
 
     type End = Ended;
 
-    type Found = Begin;
-
     type Place = Place;
 
     ghost is_case = { IsCaseAt };
@@ -62,10 +60,6 @@ impl<'a> CaseTree for Starts<'a> {
     ghost ends = { IsEndAt };
 
     ghost is_over = { IsOverAt };
-
-    ghost is_found = { IsFoundAt };
-
-    ghost is_comparison_over = { IsComparisonOverAt };
 
     fn are_in_order(&self) {}
 
@@ -120,6 +114,14 @@ impl<'a> CaseTree for Starts<'a> {
     fn go_on(&self, waiting: Waiting<Course>, made: Traced<Course>) -> Traced<Course> {
         waiting.over(made.into_paths())
     }
+}
+
+impl<'a> ComparedTree for Starts<'a> {
+    type Found = Begin;
+
+    ghost is_found = { IsFoundAt };
+
+    ghost is_comparison_over = { IsComparisonOverAt };
 
     fn compare(
         &self,

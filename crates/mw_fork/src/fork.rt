@@ -57,8 +57,8 @@ impl<'a> Model for Fork<'a> {
     ghost view = { λ f. forks.fork_of f.cases };
 }
 
-/// Why no case is given.
-fn fault_of(boundary: usize, limit: u32, fault: Fault<Halt<Place>>) -> ForkFault
+/// Why no case of the boundary of this number is given, within so many paths.
+pub fn fault_of(boundary: usize, limit: u32, fault: Fault<Halt<Place>>) -> ForkFault
     ensures nodes { (number : ℕ) (prefix : List Decided) (word j : ℕ)
         → result ≡ faults.Over (overs.Nodes number prefix word j)
         → (number ≡ boundary)

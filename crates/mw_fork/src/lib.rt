@@ -15,7 +15,7 @@ mod walk;
 
 pub use budget::Budget;
 pub use fault::{ForkFault, Over};
-pub use fork::{Case, Fork};
+pub use fork::{Case, Fork, fault_of};
 pub use mw_explore::Fault;
 pub use mw_term::{Decided, Prefix};
 pub use walk::Visitor;

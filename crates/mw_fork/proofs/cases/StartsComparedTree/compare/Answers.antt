@@ -2,7 +2,7 @@ use Rattle.std.proofs.Common.{subst}
 use Rattle.std.proofs.lemmas.Result.{IfErr-weaker, on_ok_weaker}
 use Rattle.mw_rel.specs.Views.{job_of}
 use Rattle.mw_fork.specs.Failing.{ComparisonStops}
-use Rattle.mw_fork.proofs.cases.StartsCaseTree.compare.Goals as goal
+use Rattle.mw_fork.proofs.cases.StartsComparedTree.compare.Goals as goal
 
 pub returns-clause-gone : goal.returns-clause-gone
 returns-clause-gone g c =
