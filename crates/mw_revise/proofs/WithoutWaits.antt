@@ -203,7 +203,8 @@ cycles_alike side revision twins (suc n) =
     (rw (on_side side revision twins)
     (cycle_alike revision.board (store_of side revision) (start_on side twins) n))
 
-ends_alike : (side : Side) (revision : Revision) (twins : TwinStart)
+-- so does its first segment end
+pub ends_alike : (side : Side) (revision : Revision) (twins : TwinStart)
     → end_on side revision twins ≡ end_on side revision (twins_without_waits revision twins)
 ends_alike side revision twins =
     let end : (ℕ → ℕ) → Option ℕ = λ at. first_boundary (addresses_of side revision) at twins.block.bound in

@@ -14,6 +14,7 @@ pub mod Growing
 pub mod KeptLines
 pub mod NewBegun
 pub mod NewSegment
+pub mod Numbered
 pub mod OldBegun
 pub mod OldSegment
 pub mod OneSide

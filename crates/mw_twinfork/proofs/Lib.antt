@@ -1,0 +1,9 @@
+pub mod AnyTwins
+pub mod Budgets
+pub mod Choosing
+pub mod EndsMet
+pub mod NextOn
+pub mod OthersWait
+pub mod SegmentsMeet
+pub mod StartLaws
+pub mod TwinPrefixes

@@ -1,0 +1,7 @@
+pub mod Ends
+pub mod OneProof
+pub mod Stops
+pub mod Traces
+pub mod TwinCases
+pub mod TwinForks
+pub mod Within
