@@ -1,6 +1,7 @@
 -- Laws of twin starts, and of when two programs agree.
-use Rattle.std.specs.Prelude.{◌≡◌, ◌↔◌, [], None, Some}
+use Rattle.std.specs.Prelude.{◌≡◌, ◌≢◌, ◌⊎◌, ◌↔◌, List, [], None, Some, false}
 use Rattle.mw_cycle.specs.Run.{BoardRun}
+use Rattle.mw_rel.specs.Case.{IsBefore}
 use Rattle.mw_revise.specs.declared.difference.TwinDifference.{TwinDifference}
 use Rattle.mw_revise.specs.declared.keep.Block.{Block}
 use Rattle.mw_revise.specs.declared.programs.Side.{Side}
@@ -8,9 +9,11 @@ use Rattle.mw_revise.specs.declared.programs.Side.TheVariants.{Old, New}
 use Rattle.mw_revise.specs.Agreement.{Agreement}
 use Rattle.mw_revise.specs.Revision.{Revision, IsRevision, IsBlockOf}
 use Rattle.mw_revise.specs.Together.{StandTogether}
+use Rattle.mw_revise.specs.TwinBudgets.{IsTwinCase, IsTwinStartAt}
 use Rattle.mw_revise.specs.TwinCase.{cycles_on, is_late_on, twin_case}
 use Rattle.mw_revise.specs.TwinDiffers.{TwinDiffers, segment_on, twin_difference}
 use Rattle.mw_revise.specs.TwinStart.{TwinStart, IsTwinStart, twins_without_waits}
+use Rattle.mw_term.specs.declared.decided.Decided.{Decided}
 
 -- Both first segments keep the bound; they end at the same boundary of the revision, where both states stand together;
 -- and they have the same events.
@@ -74,3 +77,24 @@ pub record HaveCaseOfThinned (revision : Revision) (twins : TwinStart) : Type 0 
 -- so do all
 abbrev pub TwinCasesAreThinned : Type 0
 TwinCasesAreThinned = (revision : Revision) (twins : TwinStart) → HaveCaseOfThinned revision twins
+
+-- ---- the cases of a block
+
+-- of two cases that aren't one, one comes before the other
+abbrev pub OneTwinCaseIsFirst : Type 0
+OneTwinCaseIsFirst = (revision : Revision) (block : Block) (first second : List Decided) → IsRevision revision
+    → IsBlockOf revision block → IsTwinCase revision block first → IsTwinCase revision block second → first ≢ second
+    → IsBefore first second ⊎ IsBefore second first
+
+-- two segments of a program have as many cycles, and are late alike
+pub record EndAlike (side : Side) (revision : Revision) (one other : TwinStart) : Type 0 where
+  pub cycles : cycles_on side revision one ≡ cycles_on side revision other
+  pub late : is_late_on side revision one ≡ is_late_on side revision other
+
+-- twin starts at a block with one case have old segments that end alike and, where these aren't late, new ones too
+abbrev pub TwinCasesHaveOneEnd : Type 0
+TwinCasesHaveOneEnd = (revision : Revision) (block : Block) (one other : TwinStart) → IsRevision revision
+    → IsTwinStartAt revision block one → IsTwinStartAt revision block other
+    → twin_case revision one ≡ twin_case revision other
+    → EndAlike Old revision one other
+    × (is_late_on Old revision one ≡ false → EndAlike New revision one other)

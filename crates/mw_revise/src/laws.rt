@@ -1,5 +1,6 @@
 // Laws of twin starts, and of when two programs agree.
 ghost use Rattle.mw_revise.specs.Laws.{AgreeWhereNoneDiffers, AgreeWithoutWaits, NoneDiffersAlike, SameShowNothing};
+ghost use Rattle.mw_revise.specs.Laws.{OneTwinCaseIsFirst, TwinCasesHaveOneEnd};
 ghost use Rattle.mw_revise.specs.Laws.{ThinnedAreTwinStarts, TwinCasesAreThinned, TwinDifferencesAreThinned};
 
 /// The law of twin starts: one shows no difference exactly where both first segments keep the bound, end at the same
@@ -39,4 +40,15 @@ pub fn agree_without_waits()
 /// without their waits.
 pub fn twin_cases_are_thinned()
     ensures { TwinCasesAreThinned }
+{}
+
+/// The law of order: of two feasible cases of a block that aren't one, one comes before the other.
+pub fn one_twin_case_is_first()
+    ensures { OneTwinCaseIsFirst }
+{}
+
+/// The law of ends: twin starts at a block with one case have segments of as many cycles on each side, late or not
+/// alike; where the old segment is late the new one isn't asked about.
+pub fn twin_cases_have_one_end()
+    ensures { TwinCasesHaveOneEnd }
 {}

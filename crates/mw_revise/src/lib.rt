@@ -24,8 +24,9 @@ pub use examples::{
 };
 pub use keep::{Block, Keep, KeepLine};
 pub use laws::{
-    agree_where_none_differs, agree_without_waits, none_differs_alike, same_show_nothing,
-    thinned_are_twin_starts, twin_cases_are_thinned, twin_differences_are_thinned,
+    agree_where_none_differs, agree_without_waits, none_differs_alike, one_twin_case_is_first,
+    same_show_nothing, thinned_are_twin_starts, twin_cases_are_thinned, twin_cases_have_one_end,
+    twin_differences_are_thinned,
 };
 pub use programs::Side;
 pub use reading::read_keep;
