@@ -71,7 +71,8 @@ asks_on s old space o to kind term is none in_old come goes =
     → WaitsOnCourse s bits path (gone_on old space o) after kind term)) (sym (none_before old.new_board none)) (
       (in_old, subst (HasCome (program_on Old s.revision) s.block.bound space o) is come),
       λ bits path on.
-          subst (ComesInOld s space old.old_elements.items old.new_elements.items o bits path) is (goes old.old_elements.items bits path on),
+          subst (ComesInOld s space old.old_elements.items old.new_elements.items o bits path) is
+          (goes old.old_elements.items bits path on),
     )
 
 -- it is late
@@ -92,7 +93,8 @@ late_on s old space o to is none in_old come goes =
         fresh = in_old.fresh;
       },
       λ bits path on.
-          subst (ComesInOld s space old.old_elements.items old.new_elements.items o bits path) is (goes old.old_elements.items bits path on),
+          subst (ComesInOld s space old.old_elements.items old.new_elements.items o bits path) is
+          (goes old.old_elements.items bits path on),
     )
 
 -- a course whose new segment has begun
@@ -114,7 +116,8 @@ reached_on s old space o after to is none goes in_new idle below begins = (
       subst (λ (there : Option Symbolic). IsOnCourse s bits path old there
       → IsOnCourse s bits path (begun_on old space o after) (Some after)) (sym (none_before old.new_board none))
       (λ on. begins old.old_elements.items bits path
-      (subst (ComesInOld s space old.old_elements.items old.new_elements.items o bits path) is (goes old.old_elements.items bits path on))),
+      (subst (ComesInOld s space old.old_elements.items old.new_elements.items o bits path) is
+      (goes old.old_elements.items bits path on))),
 )
 
 -- ---- the new segment

@@ -1,5 +1,5 @@
 -- At each block there is a twin start, and so there is a case.
-use Rattle.std.proofs.Common.{◌≡◌, ℕ, ◌<◌, ◌^◌, List, pow_pos, refl, replicate, length, sym, ap, subst, ◌∙◌, Option, Some, None, arith}
+use Rattle.std.proofs.Common.{◌≡◌, ℕ, ◌<◌, ◌^◌, List, Option, Some, None, pow_pos, replicate, refl, sym, ap, ◌∙◌, arith}
 use Rattle.std.specs.Prelude.{All, IfSome}
 use Rattle.std.proofs.lemmas.List.{length-replicate}
 use Rattle.mw_board.specs.declared.parts.BoardParts.{BoardParts}

@@ -4,6 +4,4 @@ pub mod Choosing
 pub mod EndsMet
 pub mod NextOn
 pub mod OthersWait
-pub mod SegmentsMeet
-pub mod StartLaws
 pub mod TwinPrefixes

@@ -17,6 +17,7 @@ use Rattle.mw_twinfork.specs.Within.{AreDecidedWithin}
 abbrev pub IsCaseOf : RevisedBlock → List Decided → Type 0
 IsCaseOf s bits = IsTwinCase s.revision s.block bits
 
+-- they are those of a case of the twin starts' block
 abbrev pub IsCaseAt : Twins → List Decided → Type 0
 IsCaseAt t bits = IsCaseOf t.revised bits
 

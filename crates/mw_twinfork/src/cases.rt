@@ -11,6 +11,7 @@ use mw_base::NoMemory;
 use mw_dd::Dd;
 use mw_decide::{Place, RunStop, Traced, Waiting, decide};
 use mw_explore::{CaseTree, Choice};
+use mw_revise::one_twin_case_is_first;
 use mw_symmem::Turn;
 use mw_term::{DecidedKind, ShortcutBook, Term, stands_with_more};
 use mw_twin::{Course, courses_take_bits};
@@ -55,7 +56,10 @@ impl<'a> CaseTree for Twins<'a> {
 
     ghost is_over = { IsOverAt };
 
-    fn are_in_order(&self) {}
+    fn are_in_order(&self) {
+        // A law for the proof: of two cases one comes before the other.
+        one_twin_case_is_first();
+    }
 
     fn begin(&self, alloc: Global) -> Result<Traced<Course>, NoMemory> {
         let course = first_course(alloc, &self.revised)?;

@@ -20,8 +20,8 @@ use mw_twin::RevisedBlock;
 use std::alloc::Global;
 use std::marker::Model;
 
-/// The feasible cases of the twin starts at a block, which are given one after another. They are explored by courses, which
-/// have one table of terms, with the diagrams of their bits.
+/// The feasible cases of the twin starts at a block, which are given one after another. They are explored by courses,
+/// which have one table of terms, with the diagrams of their bits.
 #[derive(Drop)]
 pub struct TwinFork<'a> {
     cases: Explorer<Twins<'a>>,
@@ -62,8 +62,8 @@ impl<'a> TwinFork<'a> {
         }
     }
 
-    /// The next feasible case, in the order of its bits, 0 before 1, those of the old segment before those of the new one,
-    /// with how both segments of its twin starts end; nothing exactly after the last.
+    /// The next feasible case, in the order of its bits, 0 before 1, those of the old segment before those of the new
+    /// one, with how both segments of its twin starts end; nothing exactly after the last.
     ///
     /// # Errors
     ///

@@ -1,6 +1,6 @@
-//! The feasible cases of the twin starts at a block of a revision, exactly, each once and in order, with how both segments
-//! end. A course goes through both programs' segments on terms, and every bit that is decided splits its path in two. The
-//! order of cases, and the courses that wait, are `mw_explore`'s; how a bit is decided is `mw_decide`'s.
+//! The feasible cases of the twin starts at a block of a revision, exactly, each once and in order, with how both
+//! segments end. A course goes through both programs' segments on terms, and every bit that is decided splits its path in
+//! two. The order of cases, and the courses that wait, are `mw_explore`'s; how a bit is decided is `mw_decide`'s.
 #![tactic(auto)]
 
 mod cases;

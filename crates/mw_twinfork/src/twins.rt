@@ -8,7 +8,8 @@ ghost use Rattle.mw_twinfork.specs.OneProof.{block_once, revision_once};
 
 use mw_twin::RevisedBlock;
 
-/// The twin starts of a revision at one of its blocks, and how many joint cofactors an operation of their cases may have.
+/// The twin starts of a revision at one of its blocks, and how many joint cofactors an operation of their cases may
+/// have.
 #[derive(Drop)]
 pub(crate) struct Twins<'a> {
     /// The revision and the block.

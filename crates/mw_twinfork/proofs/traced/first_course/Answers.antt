@@ -12,5 +12,6 @@ returns c =
     record {
       ready = c.in_ok-new.ensures.ready;
       on = on;
-      paths = e.paths course.space.terms (on_way_of c.args.revised.now [] (path_in paths) course course.new_board on).stands.space.map;
+      paths = e.paths course.space.terms
+          (on_way_of c.args.revised.now [] (path_in paths) course course.new_board on).stands.space.map;
     }

@@ -1,6 +1,5 @@
 use Rattle.std.proofs.Common.{refl}
 use Rattle.mw_twinfork.proofs.AnyTwins.{some_twins}
-use Rattle.mw_twinfork.proofs.StartLaws.{in_order}
 use Rattle.mw_twinfork.proofs.cases.TwinsCaseTree.are_in_order.Goals as goal
 
 pub returns-clause-some : goal.returns-clause-some
@@ -12,4 +11,5 @@ returns-clause-some c =
 pub returns-clause-order : goal.returns-clause-order
 returns-clause-order c = λ one two first second differ.
     let t = c.args.self.now in
-    in_order t.revised.revision t.revised.block one two t.revision_is first second differ
+    c.one_twin_case_is_first.ensures t.revised.revision t.revised.block one two t.revision_is (t.boundary, t.there) first
+    second differ
