@@ -34,7 +34,7 @@ thinned_is board store env start none =
     ∙ nothing_is_thinned board store (but_waits env) start
 
 -- its run is that of its board
-run_steady : (side : Side) (revision : Revision) (twins : TwinStart) (n : ℕ) → (start_on side twins).env.wait ≡ []
+pub run_steady : (side : Side) (revision : Revision) (twins : TwinStart) (n : ℕ) → (start_on side twins).env.wait ≡ []
     → but_clocks (run_on side revision twins n)
     ≡ run_in revision.board (store_of side revision) (course_on side twins) n
 run_steady side revision twins n none =

@@ -20,7 +20,8 @@ use Rattle.mw_revise.specs.TwinStart.{TwinStart, start_on}
 use Rattle.mw_space.specs.Entries.{but_waits}
 use Rattle.mw_symboard.specs.Paths.{IsOneOf}
 use Rattle.mw_symboard.proofs.Runs.{variable_of}
-use Rattle.mw_symmem.specs.Memory.{FitImage, IsImage}
+use Rattle.mw_symboard.specs.Variables.{IsOutsideNumber}
+use Rattle.mw_symmem.specs.Memory.{FitImage, IsBaseNumber, IsImage}
 use Rattle.mw_symmem.proofs.Reached.{images_are_reached}
 use Rattle.mw_symmem.proofs.There.{images_are_there}
 use Rattle.mw_term.specs.declared.kinds.WordKind.TheVariants.{Element, Line}
@@ -197,10 +198,15 @@ there revision block g is of fits ground given =
 
 -- ---- each twin start has an assignment
 
-reached : (revision : Revision) (block : Block) (g : Ground) → IsGround revision.board block g → (twins : TwinStart)
-    → IsTwinStartAt revision block twins → AreUnwaiting twins
+-- Each twin start has one, which differs from another one that gives the variables of its elements their values in the
+-- variables of environments and of base reads alone.
+pub reached_from : (revision : Revision) (block : Block) (g : Ground) → IsGround revision.board block g
+    → (twins : TwinStart) → IsTwinStartAt revision block twins → AreUnwaiting twins → (first : Given)
+    → GivesElements revision.board g twins.before.state twins.after.state first
     → (given : Given) × StandsForTwins revision block g given twins
-reached revision block g ground twins starts ready =
+    × ((n : ℕ) → ¬ IsOutsideNumber Board g.words n → ¬ IsOutsideNumber Machine g.words n → ¬ IsBaseNumber g.words n
+    → given n ≡ first n)
+reached_from revision block g ground twins starts ready first elements =
     let board = revision.board in
     let work = ground.space.workspace in
     let begun = starts.begins.are in
@@ -208,7 +214,6 @@ reached revision block g ground twins starts ready =
     let old_env = but_waits twins.before.env in
     let new_env = but_waits twins.after.env in
     let image = image_of_state board block g twins.before.state ground together.old_fits in
-    let first = with_elements g.words (values_of_both board twins.before.state twins.after.state) in
     let second =
     both_are_reached board g.table g.words (ground.variables Old).0 (ground.variables New).0 first old_env new_env
     work.table work.of ground.own (ground.variables Old).1 (ground.variables New).1
@@ -222,7 +227,8 @@ reached revision block g ground twins starts ready =
     let gives : GivesElements board g twins.before.state twins.after.state third.0 =
     λ place term n at. third.2 (place + 1) (element_no_base g.words place term n at)
     ∙ second.2 (place + 1) (inside Board g.words place term (Element n) (element_inside Board n) at)
-    (inside Machine g.words place term (Element n) (element_inside Machine n) at) in
+    (inside Machine g.words place term (Element n) (element_inside Machine n) at)
+    ∙ elements place term n at in
     let lines = subst (λ (b : Block). All (Holds board twins.before.state twins.after.state) b.lines) starts.there
     together.lines in (
       third.0,
@@ -231,7 +237,16 @@ reached revision block g ground twins starts ready =
           together.new_fits lines gives)
           (new_has_elements board block g third.0 twins.before.state twins.after.state ground together.old_fits
           together.new_fits lines gives),
+      λ n no_old no_new no_base. third.2 n no_base ∙ second.2 n no_old no_new,
     )
+
+reached : (revision : Revision) (block : Block) (g : Ground) → IsGround revision.board block g → (twins : TwinStart)
+    → IsTwinStartAt revision block twins → AreUnwaiting twins
+    → (given : Given) × StandsForTwins revision block g given twins
+reached revision block g ground twins starts ready =
+    let first = with_elements g.words (values_of_both revision.board twins.before.state twins.after.state) in
+    let from = reached_from revision block g ground twins starts ready first (λ place term n at. refl) in
+    (from.0, from.1)
 
 pub twin_starts_are_there : (revision : Revision) (block : Block) (g : Ground) → IsRevision revision
     → IsBlockOf revision block → IsBlock revision.board block

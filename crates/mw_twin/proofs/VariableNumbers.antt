@@ -16,7 +16,7 @@ use Rattle.mw_symmem.proofs.Lists.{kind_of}
 use Rattle.mw_symboard.specs.Variables.{IsOutsideKind, IsOutsideNumber}
 
 -- two variables of one number are of one kind
-one_kind : (words : List Word) (i j a b : ℕ) (one two : WordKind) → i + 1 ≡ j + 1 → IsVariable words i a one
+pub one_kind : (words : List Word) (i j a b : ℕ) (one two : WordKind) → i + 1 ≡ j + 1 → IsVariable words i a one
     → IsVariable words j b two → one ≡ two
 one_kind words i j a b one two same first second =
     let place : i ≡ j = omega (arith, same) in

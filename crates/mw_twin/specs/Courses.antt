@@ -2,6 +2,7 @@
 -- the new one's.
 use Rattle.std.specs.Prelude.{◌≡◌, ℕ, ◌<◌, ◌≤◌, ◌∷◌, ◌++◌, List, [], length, Bool, true, false, Option, Some, None}
 use Rattle.mw_board.specs.declared.parts.BoardParts.{BoardParts}
+use Rattle.mw_board.specs.Elements.{element_count}
 use Rattle.mw_cycle.specs.Decided.{decided}
 use Rattle.mw_revise.specs.declared.programs.Side.TheVariants.{New, Old}
 use Rattle.mw_segment.specs.Segments.{HasCome}
@@ -30,6 +31,16 @@ use Rattle.mw_twin.specs.TwinPaths.{HasDecided}
 -- what it works on, with the terms of the elements of both boards
 abbrev pub ground_of : Course → Ground
 ground_of course = ground_in course.space course.old_elements.items course.new_elements.items
+
+-- there is a term for each element of both boards
+pub record HasElementTerms (s : RevisedBlock) (course : Course) : Type 0 where
+  pub old_count : length course.old_elements.items ≡ element_count s.revision.board
+  pub new_count : length course.new_elements.items ≡ element_count s.revision.board
+
+-- these terms are the same
+pub record KeepsElements (old new : Course) : Type 0 where
+  pub old_elements : new.old_elements.items ≡ old.old_elements.items
+  pub new_elements : new.new_elements.items ≡ old.new_elements.items
 
 -- ---- where it stands
 

@@ -17,8 +17,8 @@ ghost use Rattle.mw_term.specs.declared.word.Word.{Word};
 ghost use Rattle.mw_term.specs.Functions.{Function, always};
 ghost use Rattle.mw_term.specs.Table.{Table};
 ghost use Rattle.mw_twin.specs.Origins.{IsElementKind, IsGround, ground_in};
-ghost use Rattle.mw_twin.specs.Courses.{GoesOnCourse, HaveCome, IsGiven, IsGivenTo, IsOnCourse, IsReady, IsReadyIn, IsTurned};
-ghost use Rattle.mw_twin.specs.Courses.{MayBeGiven};
+ghost use Rattle.mw_twin.specs.Courses.{GoesOnCourse, HasElementTerms, HaveCome, IsGiven, IsGivenTo, IsOnCourse};
+ghost use Rattle.mw_twin.specs.Courses.{IsReady, IsReadyIn, IsTurned, KeepsElements, MayBeGiven};
 ghost use Rattle.mw_twin.specs.RevisedBlocks.{IsRevisedBlock};
 
 use crate::elements::{Elements, elements_at};
@@ -122,6 +122,7 @@ impl Course {
     pub fn new(alloc: Global, revised: &RevisedBlock) -> Result<Course, NoMemory>
         requires { IsRevisedBlock revised.now }
         ensures ready { IfOk result (IsReady revised.now) }
+        ensures terms { IfOk result (HasElementTerms revised.now) }
         ensures first { IfOk result (λ course. (path : Function) → Agree path always
             → IsOnCourse revised.now [] path course course.new_board) }
     {
@@ -142,6 +143,7 @@ impl Course {
     fn to_new(&mut self, alloc: Global, revised: &RevisedBlock) -> Result<Option<Turn>, NoMemory>
         requires { IsReady revised.now self.old }
         ensures later { OnOk result (IsLater self.old.space.terms self.new.space.terms) }
+        ensures elements { OnOk result (KeepsElements self.old self.new) }
         ensures come { IfOk result (HaveCome revised.now self.old self.new) }
     {
         if self.new_board.is_some() {
@@ -177,6 +179,7 @@ impl Course {
     fn turn_new(&mut self, alloc: Global, revised: &RevisedBlock) -> Result<Turn, NoMemory>
         requires { (after : Symbolic) × (self.old.new_board ≡ Some after) × IsReadyIn revised.now self.old (Some after) }
         ensures later { OnOk result (IsLater self.old.space.terms self.new.space.terms) }
+        ensures elements { OnOk result (KeepsElements self.old self.new) }
         ensures turned { IfOk result (IsTurned revised.now self.new) }
         ensures goes { IfOk result (GoesOnCourse revised.now self.old self.new) }
     {
@@ -205,6 +208,7 @@ impl Course {
     pub fn turn(&mut self, alloc: Global, revised: &RevisedBlock) -> Result<Turn, NoMemory>
         requires { IsReady revised.now self.old }
         ensures later { OnOk result (IsLater self.old.space.terms self.new.space.terms) }
+        ensures elements { OnOk result (KeepsElements self.old self.new) }
         ensures turned { IfOk result (IsTurned revised.now self.new) }
         ensures goes { IfOk result (GoesOnCourse revised.now self.old self.new) }
     {

@@ -68,8 +68,8 @@ fn line_about(lines: &[KeepLine], number: u32) -> Option<KeepLine>
     None
 }
 
-/// How many bits the element of this number has.
-fn width_of(board: &Board, number: u32) -> u8
+/// How many bits the element of this number has, which is one of the board.
+pub fn width_of(board: &Board, number: u32) -> u8
     requires { number < element_count board.now }
     ensures exact { element_width board.now number ≡ Some result }
     ensures range { IsWidth result }

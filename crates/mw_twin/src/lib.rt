@@ -9,7 +9,7 @@ mod segments;
 mod starts;
 
 pub use course::Course;
-pub use elements::{Elements, elements_at};
+pub use elements::{Elements, elements_at, width_of};
 pub use laws::{courses_take_bits, twin_starts_are_there};
 pub use revised_block::RevisedBlock;
 pub use starts::{TwinStarts, starts_of};
