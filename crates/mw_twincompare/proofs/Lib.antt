@@ -1,0 +1,12 @@
+pub mod AllCompared
+pub mod Boards
+pub mod BoardsCompared
+pub mod CaseCompared
+pub mod CaseMet
+pub mod Even
+pub mod FixedCompared
+pub mod KeepGoesOn
+pub mod LinesKept
+pub mod NumberedCases
+pub mod Probes
+pub mod Valued
