@@ -1,13 +1,10 @@
 -- What a course that has met all bits says of the case: it is one, and each of its twin starts ends so.
 use Rattle.std.proofs.Common.{◌≡◌, ℕ, List, ◌∙◌, sym, subst, arith, refl, ap}
-use Rattle.std.specs.Prelude.{Bool, true, false, length, Option, Some, None, ◌&&◌}
-use Rattle.std.specs.Option.{is_none, unwrap_or}
+use Rattle.std.specs.Prelude.{Bool, true, false, length, Option, Some, None}
 use Rattle.std.proofs.lemmas.List.{take_all}
-use Rattle.mw_revise.specs.declared.keep.Block.{Block}
-use Rattle.mw_revise.specs.declared.programs.Side.{Side}
 use Rattle.mw_revise.specs.declared.programs.Side.TheVariants.{New, Old}
 use Rattle.mw_revise.specs.Revision.{Revision}
-use Rattle.mw_revise.specs.TwinBudgets.{IsTwinCase, IsTwinStartAt}
+use Rattle.mw_revise.specs.TwinBudgets.{IsTwinCase}
 use Rattle.mw_revise.specs.TwinCase.{end_on, twin_case}
 use Rattle.mw_revise.specs.TwinStart.{TwinStart, twins_without_waits}
 use Rattle.mw_revise.proofs.WithoutWaits.{ends_alike}

@@ -2,6 +2,8 @@ pub mod AnyTwins
 pub mod Budgets
 pub mod Choosing
 pub mod EndsMet
+pub mod FoundTwins
 pub mod NextOn
 pub mod OthersWait
+pub mod Restored
 pub mod TwinPrefixes

@@ -1,4 +1,5 @@
 pub mod Ends
+pub mod Found
 pub mod OneProof
 pub mod Stops
 pub mod Traces

@@ -1,5 +1,5 @@
 -- What holds of every revision and of every block has one proof at most, so that twin starts can keep it as a fact.
-use Rattle.std.specs.Prelude.{ℕ}
+use Rattle.std.specs.Prelude.{List, All}
 use Rattle.std.specs.Coded.{le_prop}
 use Rattle.std.proofs.Props.{props}
 use Rattle.mw_board.specs.declared.parts.BoardParts.{BoardParts}
@@ -20,6 +20,10 @@ line_once board (Fixed element old_value new_value) = Prim.hlevel le_prop
 pub block_once : (board : BoardParts) (block : Block) → IsProp (IsBlock board block)
 unfolding AreNamedOnce
 block_once board block = Prim.hlevel (line_once, le_prop, props)
+
+-- of all blocks
+pub blocks_once : (board : BoardParts) (blocks : List Block) → IsProp (All (IsBlock board) blocks)
+blocks_once board blocks = Prim.hlevel (block_once, props)
 
 -- and of a revision
 pub revision_once : (revision : Revision) → IsProp (IsRevision revision)

@@ -1,13 +1,15 @@
 -- How a course goes through a case of the twin starts at a block.
-use Rattle.std.specs.Prelude.{ℕ, List}
+use Rattle.std.specs.Prelude.{ℕ, List, Option}
 use Rattle.mw_decide.specs.declared.fault.Place.{Place}
-use Rattle.mw_revise.specs.TwinBudgets.{IsTwinCase}
+use Rattle.mw_revise.specs.TwinBudgets.{AreTwinNodesOver, IsTwinCase}
 use Rattle.mw_term.specs.declared.decided.Decided.{Decided}
 use Rattle.mw_term.specs.declared.decided.DecidedKind.{DecidedKind}
+use Rattle.mw_twin.specs.declared.starts.TwinStarts.{TwinStarts}
 use Rattle.mw_twin.specs.RevisedBlocks.{RevisedBlock}
 use Rattle.mw_twinfork.specs.declared.twins.TwinEnd.{TwinEnd}
 use Rattle.mw_twinfork.specs.declared.twins.Twins.{Twins}
 use Rattle.mw_twinfork.specs.Ends.{EndsEach}
+use Rattle.mw_twinfork.specs.Found.{IsFoundOf}
 use Rattle.mw_twinfork.specs.Stops.{IsDecisionOver}
 use Rattle.mw_twinfork.specs.Traces as traces
 use Rattle.mw_twinfork.specs.Traces.{HasGone, IsAsking, IsGoing, Traced, Waiting}
@@ -53,3 +55,12 @@ pub record IsEndAt (t : Twins) (bits : List Decided) (end : TwinEnd) : Type 0 wh
 -- the decision behind these bits is over the budget there
 abbrev pub IsOverAt : Twins → (bits : List Decided) → Place → Type 0
 IsOverAt t bits place = IsDecisionOver t.revised t.nodes bits place.word place.bit
+
+-- this is found, or nothing is, of the twin starts with the case that differ
+abbrev pub IsFoundAt : Twins → (bits : List Decided) → Option TwinStarts → Type 0
+IsFoundAt t bits found = IsFoundOf t.revised t.nodes bits found
+
+-- an operation of the comparison is over the budget there, in the list of the case
+abbrev pub IsComparisonOverAt : Twins → (bits : List Decided) → Place → Type 0
+IsComparisonOverAt t bits place =
+    AreTwinNodesOver t.revised.revision t.revised.block t.nodes bits place.word place.bit

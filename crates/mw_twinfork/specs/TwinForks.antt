@@ -1,5 +1,5 @@
 -- What a fork of twin starts gives: the feasible cases of a block, one after another.
-use Rattle.std.specs.Prelude.{ℕ, ◌≤◌}
+use Rattle.std.specs.Prelude.{ℕ}
 use Rattle.mw_explore.specs.Cases.{Standing}
 use Rattle.mw_explore.specs.Explorers.{Explorer}
 use Rattle.mw_fork.specs.declared.budget.Budget.{Budget}

@@ -3,18 +3,20 @@ ghost use Rattle.std.specs.Prelude.{◌≡◌, IfOk, IfSome};
 ghost use Rattle.std.specs.Option.{is_some};
 ghost use Rattle.mw_twin.specs.Courses.{MayBeGiven};
 ghost use Rattle.mw_twinfork.specs.Traces.{IsOther};
-ghost use Rattle.mw_twinfork.specs.TwinCases.{Asks, HasCome, HasGoneThrough, IsCaseAt, IsEndAt, IsOverAt, IsWaitingAt};
+ghost use Rattle.mw_twinfork.specs.TwinCases.{Asks, HasCome, HasGoneThrough, IsCaseAt, IsComparisonOverAt, IsEndAt};
+ghost use Rattle.mw_twinfork.specs.TwinCases.{IsFoundAt, IsOverAt, IsWaitingAt};
 
+use crate::found::differing;
 use crate::traced::{end_of, first_course, other_course};
 use crate::twins::{TwinEnd, Twins};
 use mw_base::NoMemory;
 use mw_dd::Dd;
 use mw_decide::{Place, RunStop, Traced, Waiting, decide};
-use mw_explore::{CaseTree, Choice};
+use mw_explore::{CaseTree, Choice, ComparedTree};
 use mw_revise::one_twin_case_is_first;
 use mw_symmem::Turn;
 use mw_term::{DecidedKind, ShortcutBook, Term, stands_with_more};
-use mw_twin::{Course, courses_take_bits};
+use mw_twin::{Course, TwinStarts, courses_take_bits};
 use std::alloc::Global;
 
 /// The course that waits with 1 for the bit that is waited for, where there is a path for that.
@@ -105,5 +107,22 @@ impl<'a> CaseTree for Twins<'a> {
 
     fn go_on(&self, waiting: Waiting<Course>, made: Traced<Course>) -> Traced<Course> {
         waiting.over(made.into_paths())
+    }
+}
+
+impl<'a> ComparedTree for Twins<'a> {
+    type Found = TwinStarts;
+
+    ghost is_found = { IsFoundAt };
+
+    ghost is_comparison_over = { IsComparisonOverAt };
+
+    fn compare(
+        &self,
+        alloc: Global,
+        course: &mut Traced<Course>,
+        book: &ShortcutBook,
+    ) -> Result<Option<TwinStarts>, RunStop> {
+        differing(alloc, self, course, book)
     }
 }

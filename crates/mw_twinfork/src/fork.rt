@@ -1,5 +1,6 @@
 // The feasible cases of the twin starts at a block.
-ghost use Rattle.std.specs.Prelude.{◌≡◌, ◌+◌, ◌<◌, ℕ, List, IfErr, IfOk, IfSome, None, Some, slice_get};
+ghost use Rattle.std.specs.Prelude.{◌≡◌, ◌≢◌, ◌+◌, ◌<◌, ℕ, List, All, IfErr, IfOk, IfSome, None, OnOk, Some, slice_get};
+ghost use Rattle.mw_compare.specs.TreeComparisons.{AreComparisonsWithin};
 ghost use Rattle.mw_term.specs.declared.decided.Decided.{Decided};
 ghost use Rattle.mw_explore.specs.Cases.{At, Before, Behind, IsNext, IsToCome, NoneIsToCome, OneIsToCome};
 ghost use Rattle.mw_explore.specs.declared.fault.Fault.TheVariants as faults;
@@ -7,7 +8,11 @@ ghost use Rattle.mw_fork.specs.declared.fault.Over.TheVariants as overs;
 ghost use Rattle.mw_rel.specs.Case.{IsBefore};
 ghost use Rattle.mw_revise.specs.Kept.{IsBlock};
 ghost use Rattle.mw_revise.specs.Revision.{IsRevision};
+ghost use Rattle.mw_revise.specs.TwinBudgets.{AreTwinNodesOver};
+ghost use Rattle.mw_revise.specs.TwinWords.{twin_tree};
+ghost use Rattle.mw_twincompare.specs.Failing.{NoneDiffersOf};
 ghost use Rattle.mw_twinfork.specs.Ends.{EndsEach};
+ghost use Rattle.mw_twinfork.specs.Found.{IsDiffering, IsLeast};
 ghost use Rattle.mw_twinfork.specs.Stops.{IsDecisionOver};
 ghost use Rattle.mw_twinfork.specs.TwinCases.{IsCaseOf};
 ghost use Rattle.mw_twinfork.specs.Within.{AreDecidedWithin};
@@ -16,7 +21,7 @@ use crate::twins::{TwinEnd, Twins};
 use mw_explore::{Case, Explorer};
 use mw_fork::{Budget, ForkFault, fault_of};
 use mw_term::ShortcutBook;
-use mw_twin::RevisedBlock;
+use mw_twin::{RevisedBlock, TwinStarts};
 use std::alloc::Global;
 use std::marker::Model;
 
@@ -45,7 +50,7 @@ impl<'a> TwinFork<'a> {
     ) -> TwinFork<'a>
         requires revision { IsRevision revised.revision }
         requires there { slice_get revised.revision.keep.blocks boundary ≡ Some revised.block }
-        requires block { IsBlock revised.revision.board revised.block }
+        requires blocks { All (IsBlock revised.revision.board) revised.revision.keep.blocks }
         ensures revised { result.revised ≡ revised.entry }
         ensures boundary { result.boundary ≡ boundary }
         ensures budget { result.budget ≡ budget }
@@ -114,5 +119,48 @@ impl<'a> TwinFork<'a> {
             Err(fault) => return Err(fault_of(boundary, limit, fault)),
         };
         Ok(next)
+    }
+
+    /// A twin start of the case given last that differs: what the first assignment gives under which the first comparison
+    /// fails that can; where a segment is late, the events aren't alike, the new board is at another boundary or a stack
+    /// pointer isn't the boundary's, the first that takes its path. Where there is no error, nothing exactly where none
+    /// of its twin starts differs. A case was given last.
+    ///
+    /// # Errors
+    ///
+    /// - `Over`, with `Nodes`, only where an operation at that word and bit, in the word list of the case, which is the
+    ///   prefix, has more joint cofactors than the budget has nodes.
+    /// - `NoMemory`: memory ran out.
+    ///
+    /// After an error it may only be dropped.
+    pub fn differs(
+        &mut self,
+        alloc: Global,
+        book: &ShortcutBook,
+    ) -> Result<Option<TwinStarts>, ForkFault>
+        requires { (last : List Decided) × (self.old.at ≡ At last) }
+        ensures same { OnOk result (self.new ≡ self.old) }
+        ensures differs { IfOk result (λ o. IfSome o (λ starts. (last : List Decided) → self.old.at ≡ At last
+            → IsDiffering self.old.revised last starts)) }
+        ensures least { IfOk result (λ o. IfSome o (λ starts. (last : List Decided) → self.old.at ≡ At last
+            → IsLeast self.old.revised last starts)) }
+        ensures none { IfOk result (λ o. o ≡ None → (last : List Decided) → self.old.at ≡ At last
+            → NoneDiffersOf self.old.revised last) }
+        ensures within { IfOk result (λ o. o ≡ None → (last : List Decided) → self.old.at ≡ At last
+            → AreComparisonsWithin (twin_tree self.old.revised.revision self.old.revised.block) self.old.budget.nodes
+            last) }
+        ensures cause { IfErr result (λ e. (boundary : ℕ) (prefix : List Decided) (word bit : ℕ)
+            → e ≡ faults.Over (overs.Nodes boundary prefix word bit)
+            → (boundary ≡ self.old.boundary) × (self.old.at ≡ At prefix)
+            × AreTwinNodesOver self.old.revised.revision self.old.revised.block self.old.budget.nodes prefix word bit) }
+        ensures paths { IfErr result (λ e. (boundary limit : ℕ) → e ≢ faults.Over (overs.Paths boundary limit)) }
+    {
+        let boundary = self.cases.tree().boundary;
+        let limit = self.cases.limit();
+        let found = match self.cases.compare(alloc, book) {
+            Ok(found) => found,
+            Err(fault) => return Err(fault_of(boundary, limit, fault)),
+        };
+        Ok(found)
     }
 }

@@ -1,10 +1,10 @@
 // The twin starts at a block.
 ghost use Rattle.std.proofs.Props.{props};
-ghost use Rattle.std.specs.Prelude.{◌≡◌, Some, slice_get};
+ghost use Rattle.std.specs.Prelude.{◌≡◌, All, Some, slice_get};
 ghost use Rattle.mw_rel.specs.OneProof.{board_once};
 ghost use Rattle.mw_revise.specs.Kept.{IsBlock};
 ghost use Rattle.mw_revise.specs.Revision.{IsRevision};
-ghost use Rattle.mw_twinfork.specs.OneProof.{block_once, revision_once};
+ghost use Rattle.mw_twinfork.specs.OneProof.{block_once, blocks_once, revision_once};
 
 use mw_twin::RevisedBlock;
 
@@ -21,6 +21,7 @@ pub(crate) struct Twins<'a> {
     ghost revision_is: { IsRevision revised.revision } by { revision_once revised.revision },
     ghost there: { slice_get revised.revision.keep.blocks boundary ≡ Some revised.block },
     ghost block_is: { IsBlock revised.revision.board revised.block } by { block_once revised.revision.board revised.block },
+    ghost kept: { All (IsBlock revised.revision.board) revised.revision.keep.blocks } by { blocks_once revised.revision.board revised.revision.keep.blocks },
 }
 
 /// How the segments of a twin case end.

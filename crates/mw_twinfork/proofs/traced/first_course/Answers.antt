@@ -11,6 +11,7 @@ returns c =
     let on = c.in_ok-new.ensures.first (path_in paths) e.always in
     record {
       ready = c.in_ok-new.ensures.ready;
+      terms = c.in_ok-new.ensures.terms;
       on = on;
       paths = e.paths course.space.terms
           (on_way_of c.args.revised.now [] (path_in paths) course course.new_board on).stands.space.map;

@@ -21,7 +21,7 @@ use Rattle.mw_twinfork.proofs.Budgets.{stops_by, within_more}
 use Rattle.mw_twinfork.proofs.Choosing.{has_decided, is_chosen, listed_on, some_on_path}
 use Rattle.mw_twinfork.proofs.EndsMet.{starts_on}
 use Rattle.mw_twinfork.proofs.NextOn.{IsNextOn, next_on}
-use Rattle.mw_twinfork.proofs.OthersWait.{other_waits, waits_on}
+use Rattle.mw_twinfork.proofs.OthersWait.{other_waits, terms_given, waits_on}
 use Rattle.mw_twinfork.specs.declared.twins.Twins.{Twins}
 use Rattle.mw_twinfork.specs.Stops.{StopsBy}
 use Rattle.mw_twinfork.specs.Traces.{Traced}
@@ -92,6 +92,7 @@ returns-clause-come g c = λ bits asks.
     record {
       going = record {
         ready = laws.ready s old.course new kind term value asks.asking.waits given;
+        terms = terms_given s value old.course new given asks.asking.terms;
         on = laws.on s bits path (path_in paths) old.course new kind term value asks.asking.waits asks.asking.on given
             has;
         paths = subst (λ (space : Space). HavePaths space paths) (sym given.space) e.paths;

@@ -3,6 +3,7 @@ use Rattle.mw_decide.proofs.Remaining.{paths_later}
 use Rattle.mw_path.specs.Paths.{path_in}
 use Rattle.mw_twin.specs.Courses.{IsTurned, IsTurnedOnCourse}
 use Rattle.mw_twinfork.proofs.EndsMet.{case_met}
+use Rattle.mw_twinfork.proofs.OthersWait.{terms_kept}
 use Rattle.mw_twinfork.proofs.cases.TwinsCaseTree.turn.Goals as goal
 
 pub returns-clause-asks : goal.returns-clause-asks
@@ -14,6 +15,7 @@ returns-clause-asks c = λ kind term is bits has.
     record {
       asking = record {
         waits = subst (IsTurned s new) is t.turned;
+        terms = terms_kept s old.course new t.elements has.going.terms;
         on = subst (IsTurnedOnCourse s bits (path_in old.paths) new) is
             (t.goes bits (path_in old.paths) has.going.on);
         paths = paths_later old.course.space new.space old.paths t.later has.going.paths;
@@ -30,6 +32,7 @@ returns-clause-gone c = λ is bits has.
     record {
       gone = record {
         run = subst (IsTurned s new) is t.turned;
+        terms = terms_kept s old.course new t.elements has.going.terms;
         met = subst (IsTurnedOnCourse s bits (path_in old.paths) new) is
             (t.goes bits (path_in old.paths) has.going.on);
         paths = paths_later old.course.space new.space old.paths t.later has.going.paths;
