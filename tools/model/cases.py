@@ -106,6 +106,11 @@ def cases(job, boundary, reads):
         end = len(case.cycles), case.late
         known = found.setdefault(case.bits(), case)
         assert end == (len(known.cycles), known.late), "one case has two ends"
+    return in_order(found)
+
+
+def in_order(found):
+    """What is found by the bits of cases, in their order."""
     ordered = sorted(found, key=decided)
     for first, second in zip(ordered, ordered[1:]):
         place = next((at for at, (one, other) in enumerate(zip(first, second)) if one != other), None)

@@ -12,7 +12,7 @@ from model.words import Cycle, Memory, Words, constant, element_widths
 
 OLD, NEW = SIDES = (0, 1)
 # What stands before the kinds of the variables of a side.
-KINDS = ("", "beside ")
+KINDS = ("", "beside-")
 
 
 @dataclass
@@ -141,8 +141,14 @@ class TwinWords:
         self.terms.append(self.new_elements())
         for side, bits in enumerate(cycles):
             self.run(side, bits)
+        # How many words there are before those of the comparison.
+        self.made = len(self.words.words)
         if len(cycles) == len(SIDES):
             self.compare()
+
+    def tokens(self):
+        """The words but those of the comparison, as rows have them."""
+        return self.words.tokens(1)[:self.made]
 
     def old_elements(self):
         """A variable for each old element that isn't fixed, by number."""

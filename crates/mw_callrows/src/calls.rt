@@ -4,23 +4,21 @@ mod cycles;
 mod diagrams;
 mod differs;
 mod expressions;
-mod keeps;
 mod logs;
 mod machines;
 mod numbers;
 mod pairs;
 mod parts;
 mod plain;
-mod programmed;
 mod relations;
 mod runs;
 mod steps;
 mod tokens;
 mod trees;
-mod twins;
 
 use mw_rowfile::{Fault, File, Report, wrong};
 use mw_symrows::symbolic;
+use mw_twinrows::{keeps, twins};
 use std::alloc::Global;
 
 /// Appends what the call of a name gives.
@@ -38,6 +36,8 @@ fn push_call(
         "relation" => relations::read(alloc, report, files),
         "keep" => keeps::read(alloc, report, files),
         "twin" => twins::print(alloc, report, given, files),
+        "twin-words" => mw_twinrows::words::list(alloc, report, given, files),
+        "twin-cases" => mw_twinrows::cases::list(alloc, report, given, files),
         "pair" => pairs::read(alloc, report, given, files),
         "plain" => plain::read(alloc, report, files),
         "number" => numbers::read(alloc, report, given),

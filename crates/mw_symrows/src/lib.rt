@@ -9,3 +9,6 @@ mod stepping;
 pub mod symbolic;
 mod valued;
 mod workspace;
+
+pub use listed::{push_operand, push_words};
+pub use valued::SymbolicStop;

@@ -19,7 +19,11 @@ fn op_of(terms: &Written, term: Term) -> Option<Op> {
 }
 
 /// Appends an operand.
-fn push_operand(
+///
+/// # Errors
+///
+/// Neither a constant nor a word.
+pub fn push_operand(
     report: &mut Report,
     terms: &Written,
     words: &Words,

@@ -4,125 +4,19 @@
 // as pass, counter zero and next address, its branch bits behind `/`, how many cycles it has, and whether it is late.
 // `call count-cases` with the same words: a line for each boundary, with how many cases it has and the cycles of the
 // longest. What is over its budget ends the list with a line: the limit of paths, or the bits before an operation, its
-// word and its bit. Bits are printed as those of a case, or as `-` where there are none; of a cycle that isn't whole,
-// `b` and the bits so far stand in place of the next address.
+// word and its bit.
 ghost use Rattle.std.specs.Prelude.{◌≡◌, ◌<◌, length, true, false, IfOk};
 ghost use Rattle.mw_rel.specs.Views.{job_of};
 ghost use Rattle.mw_fork.specs.Forks.{IsForkOf};
 
 use super::pairs::read_job;
-use mw_fork::{Budget, Case, Decided, Fork, ForkFault, Over};
+use mw_fork::{Budget, Case, Fork};
 use mw_rel::Job;
-use mw_rowfile::named::{hexadecimal_of, word};
 use mw_rowfile::{Fault, File, Report, wrong};
-use mw_term::{DecidedKind, ShortcutBook};
+use mw_term::ShortcutBook;
+use mw_twinrows::budgets::{MOST_CASES, budget_of, push_fault};
+use mw_twinrows::decided::push_prefix;
 use std::alloc::Global;
-
-/// More cases than this are not asked for.
-pub(super) const MOST_CASES: u32 = 65_536;
-
-/// What is decided of a cycle so far: the digits of pass and counter zero, and the bits of the next address.
-#[derive(Clone, Copy)]
-struct Piece {
-    pass: u8,
-    zero: u8,
-    address: u16,
-    /// Whether a bit of the next address is decided.
-    is_at_address: bool,
-}
-
-impl Piece {
-    /// Nothing is decided.
-    fn new() -> Piece {
-        Piece {
-            pass: b'-',
-            zero: b'-',
-            address: 0,
-            is_at_address: false,
-        }
-    }
-
-    /// Whether something is decided.
-    fn is_begun(self) -> bool {
-        self.pass != b'-' || self.zero != b'-' || self.is_at_address
-    }
-}
-
-/// A bit as a digit.
-fn digit(value: bool) -> u8 {
-    if value { b'1' } else { b'0' }
-}
-
-/// Appends the digits of pass and counter zero, with a blank before them.
-fn push_tests(report: &mut Report, piece: Piece) {
-    report.push(b" ");
-    report.push(&[piece.pass, piece.zero]);
-}
-
-/// Takes a bit of a cycle, and appends the cycle behind its last one.
-fn take_bit(report: &mut Report, piece: &mut Piece, kind: DecidedKind, value: bool) {
-    match kind {
-        DecidedKind::Pass => piece.pass = digit(value),
-        DecidedKind::CounterZero => piece.zero = digit(value),
-        DecidedKind::Next(place) => {
-            piece.address = piece.address << 1 | u16::from(value);
-            piece.is_at_address = true;
-            if place == 0 {
-                push_tests(report, *piece);
-                report.push_address(piece.address);
-                *piece = Piece::new();
-            }
-        }
-        DecidedKind::Branch => {}
-    }
-}
-
-/// Appends what is decided of a cycle that isn't whole, whose bits of the next address are among these.
-fn push_begun(report: &mut Report, piece: Piece, bits: &[Decided]) {
-    push_tests(report, piece);
-    report.push(b"b");
-    for bit in bits {
-        if let DecidedKind::Next(_) = bit.kind {
-            report.push_bit(bit.value);
-        }
-    }
-}
-
-/// Appends the cycles of some bits. The last one may not be whole.
-fn push_cycles(report: &mut Report, bits: &[Decided]) {
-    let mut piece = Piece::new();
-    let mut rest = bits;
-    for (place, bit) in bits.iter().enumerate() {
-        take_bit(report, &mut piece, bit.kind, bit.value);
-        if bit.kind == DecidedKind::Next(0) {
-            rest = &bits[place + 1..];
-        }
-    }
-    if piece.is_begun() {
-        push_begun(report, piece, rest);
-    }
-}
-
-/// Appends the branch bits, where there are any.
-fn push_branches(report: &mut Report, bits: &[Decided]) {
-    let mut before: &[u8] = b" / ";
-    for bit in bits {
-        if bit.kind == DecidedKind::Branch {
-            report.push(before);
-            report.push_bit(bit.value);
-            before = b"";
-        }
-    }
-}
-
-/// Appends decided bits, with a blank before them.
-fn push_prefix(report: &mut Report, bits: &[Decided]) {
-    if bits.is_empty() {
-        report.push(b" -");
-    }
-    push_cycles(report, bits);
-    push_branches(report, bits);
-}
 
 /// Appends the line of a case.
 pub(super) fn push_case(report: &mut Report, case: &Case) {
@@ -133,44 +27,6 @@ pub(super) fn push_case(report: &mut Report, case: &Case) {
     report.push(b" late ");
     report.push_bit(case.late);
     report.push(b"\n");
-}
-
-/// Appends what is over its budget.
-fn push_over(report: &mut Report, over: &Over) {
-    match over {
-        Over::Nodes {
-            prefix,
-            word,
-            bit,
-            ..
-        } => {
-            report.push(b"over nodes prefix");
-            push_prefix(report, prefix.as_slice());
-            report.push(b" word ");
-            report.push_decimal(*word);
-            report.push(b" bit ");
-            report.push_decimal(u64::from(*bit));
-        }
-        Over::Paths { limit, .. } => {
-            report.push(b"over paths ");
-            report.push_decimal(u64::from(*limit));
-        }
-    }
-    report.push(b"\n");
-}
-
-/// Appends what is over its budget. Nothing comes behind it, so the answer is that no more does.
-pub(super) fn push_fault(report: &mut Report, fault: ForkFault) -> Result<bool, Fault>
-    ensures { IfOk result (λ more. more ≡ false) }
-{
-    match fault {
-        ForkFault::Over(over) => {
-            push_over(report, &over);
-            drop(over);
-            Ok(false)
-        }
-        ForkFault::NoMemory => Err(Fault::NoMemory),
-    }
 }
 
 /// The cases of a boundary so far.
@@ -307,14 +163,6 @@ fn push_boundary(
     push_cases(report, job.boundary(boundary).address, &cases, printed);
     drop(cases);
     outcome
-}
-
-/// The budget that the words of a call name.
-pub(super) fn budget_of(given: &[String]) -> Result<Budget, Fault> {
-    Ok(Budget {
-        nodes: word(hexadecimal_of(given, "nodes")?)?,
-        paths: word(hexadecimal_of(given, "paths")?)?,
-    })
 }
 
 /// Appends the cases of all boundaries of a job within a budget.

@@ -11,8 +11,8 @@ ghost use Rattle.mw_explore.specs.Cases.{At};
 ghost use Rattle.mw_fork.specs.Forks.{IsForkOf};
 ghost use Rattle.mw_replay.specs.Counter.{IsCounter};
 
-use super::cases::{MOST_CASES, budget_of, push_case, push_fault};
-use super::pairs::{read_job, text_of};
+use super::cases::push_case;
+use super::pairs::read_job;
 use super::relations::take_names;
 use super::trees::push_name;
 use mw_fork::{Budget, Fork};
@@ -20,6 +20,8 @@ use mw_rel::{Begin, Job};
 use mw_replay::{Counter, Difference, print_counter, read_counter, replay};
 use mw_rowfile::{Fault, File, Report, wrong};
 use mw_term::ShortcutBook;
+use mw_twinrows::budgets::{MOST_CASES, budget_of, push_fault};
+use mw_twinrows::texts::text_of;
 use std::alloc::Global;
 
 /// The counter of a start that differs. It has a value for each free element and a word for each address.

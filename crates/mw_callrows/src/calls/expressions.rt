@@ -6,12 +6,12 @@ ghost use Rattle.std.specs.Prelude.{◌≡◌, ℕ, ◌<◌, ◌≤◌, ◌^◌,
 ghost use Rattle.mw_expr.specs.Text.{IsShape};
 ghost use Rattle.mw_expr.specs.Values.{AreWords, IsImage};
 
-use super::pairs::text_of;
 use super::trees::push_tree;
 use mw_base::{Cause, Cursor, Items, Line, Name, lines};
 use mw_expr::{Expr, Shape, parse_expr, value, width_of};
 use mw_rowfile::named::{hexadecimal, set_word, word};
 use mw_rowfile::{Fault, File, Report, wrong};
+use mw_twinrows::texts::text_of;
 use std::alloc::Global;
 
 /// The words of a call, as far as they were taken.

@@ -2,11 +2,12 @@
 // `call job-log`: reads that of the file `l`, for the job of the board of the file `b` with the microprogram of the
 // file `m`, the machine of the file `k` and the relation of the file `r`. What is read is printed; or one line has the
 // first fault.
-use super::pairs::{read_job, text_of};
+use super::pairs::read_job;
 use mw_base::Refusal;
 use mw_recheck::{Log, print_log, read_log, read_log_of};
 use mw_rowfile::named::{hexadecimal_of, word};
 use mw_rowfile::{Fault, File, Report};
+use mw_twinrows::texts::text_of;
 use std::alloc::Global;
 
 /// Appends the lines of a log, or of the first fault of its text.

@@ -1,12 +1,12 @@
 // `call machine`: reads the file `text`. Its machine: the memory, the registers, the temporaries, and the statements,
 // in which expressions are trees and each `if` has both lists; or one line has the first fault.
-use super::pairs::text_of;
 use super::trees::{push_name, push_tree};
 use mw_base::Name;
 use mw_descfile::read_machine;
 use mw_expr::Expr;
 use mw_macro::{Machine, Statement};
 use mw_rowfile::{Fault, File, Report, wrong};
+use mw_twinrows::texts::text_of;
 use std::alloc::Global;
 
 /// Appends a blank and a number.

@@ -11,7 +11,6 @@ ghost use Rattle.mw_rel.specs.Job.{AreForEachOther};
 ghost use Rattle.mw_rel.specs.Views.{job_of, relation_of};
 
 use super::machines::machine_in;
-use super::programmed::read_programmed;
 use mw_asm::Program;
 use mw_cycle::Env;
 use mw_descfile::read_relation;
@@ -20,18 +19,9 @@ use mw_rel::{Begin, Job, Pair, Relation, complete, free, holds};
 use mw_rowfile::named::{hexadecimal, hexadecimal_of, set_word, word};
 use mw_rowfile::states::file_words;
 use mw_rowfile::{Fault, File, Report, contents, contents_in, texts, wrong};
+use mw_twinrows::programmed::read_programmed;
+use mw_twinrows::texts::text_of;
 use std::alloc::Global;
-
-/// The text of a file that a reader takes.
-pub(super) fn text_of<'a>(files: &'a [File], name: &str) -> Result<&'a [u8], Fault>
-    ensures { IfOk result (λ text. length text.now < 2 ^ 32) }
-{
-    let text = contents(files, name)?;
-    if text.len() > 1_048_576 {
-        return Err(wrong("a text that is too long"));
-    }
-    Ok(text)
-}
 
 /// The relation of a file between a board with its microprogram and a machine.
 fn related(

@@ -4,8 +4,6 @@
 ghost use Rattle.std.specs.Prelude.{◌<◌, ◌^◌, length};
 
 use super::machines::machine_in;
-use super::pairs::text_of;
-use super::programmed::read_programmed;
 use super::trees::{push_name, push_tree};
 use mw_asm::Program;
 use mw_base::Name;
@@ -14,6 +12,8 @@ use mw_descfile::read_relation;
 use mw_macro::Machine;
 use mw_rel::{Boundary, Line};
 use mw_rowfile::{Fault, File, Report};
+use mw_twinrows::programmed::read_programmed;
+use mw_twinrows::texts::text_of;
 use std::alloc::Global;
 
 /// Takes a name behind the letter of its side.

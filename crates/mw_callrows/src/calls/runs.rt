@@ -6,8 +6,6 @@ ghost use Rattle.std.specs.Prelude.{◌<◌, ◌^◌, length};
 ghost use Rattle.mw_cycle.specs.Environment.{IsEnvironment};
 ghost use Rattle.mw_cycle.specs.State.{Fits};
 
-use super::pairs::text_of;
-use super::programmed::read_programmed;
 use mw_asm::Program;
 use mw_base::Event;
 use mw_board::Board;
@@ -15,6 +13,8 @@ use mw_cycle::{Clock, Datapath, State, Whole};
 use mw_rowfile::named::{address, bit_of, hexadecimal_of};
 use mw_rowfile::{Fault, File, Report, wrong};
 use mw_sim::{Late, Parts, Start, read_start, run_to_boundary};
+use mw_twinrows::programmed::read_programmed;
+use mw_twinrows::texts::text_of;
 use std::alloc::Global;
 
 /// The most cycles of a row.

@@ -5,8 +5,8 @@
 ghost use Rattle.std.specs.Prelude.{IfOk};
 ghost use Rattle.mw_cycle.specs.State.{Fits};
 
-use super::pairs::text_of;
-use super::programmed::read_programmed;
+use crate::programmed::read_programmed;
+use crate::texts::text_of;
 use mw_asm::Program;
 use mw_board::Board;
 use mw_revise::{Twin, TwinDifference, print_twin};

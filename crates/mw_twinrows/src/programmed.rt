@@ -19,7 +19,11 @@ fn microprogram<'a>(files: &'a [File], name: &str) -> Result<&'a [u8], Fault>
 }
 
 /// What the microprogram of a file is assembled to on a board.
-pub(super) fn read_assembled(
+///
+/// # Errors
+///
+/// There is no such file, its microprogram is too long or refused, and want of memory.
+pub fn read_assembled(
     alloc: Global,
     board: &Board,
     files: &[File],
@@ -33,7 +37,11 @@ pub(super) fn read_assembled(
 }
 
 /// The board of the file `b` with the microprogram of the file `m`.
-pub(super) fn read_programmed(alloc: Global, files: &[File]) -> Result<Program, Fault> {
+///
+/// # Errors
+///
+/// A board or a microprogram that is refused, and want of memory.
+pub fn read_programmed(alloc: Global, files: &[File]) -> Result<Program, Fault> {
     let board = board_of(alloc, files, "b")?;
     match read_assembled(alloc, &board, files, "m") {
         Ok(made) => Ok(Program { board, made }),

@@ -1,10 +1,10 @@
-// `call keep`: reads the file `k` as what stands of two programs on the board of the file `b`: of that of the file `m`, the
-// old one, and of that of the file `n`, the new one. What is printed: each block with its two addresses, its bound, its
-// stack pointer and its lines; or one line has the first fault.
+// `call keep`: reads the file `k` as what stands of two programs on the board of the file `b`: of that of the file `m`,
+// the old one, and of that of the file `n`, the new one. What is printed: each block with its two addresses, its bound,
+// its stack pointer and its lines; or one line has the first fault.
 ghost use Rattle.std.specs.Prelude.{◌<◌, ◌^◌, length};
 
-use super::pairs::text_of;
-use super::programmed::{read_assembled, read_programmed};
+use crate::programmed::{read_assembled, read_programmed};
+use crate::texts::text_of;
 use mw_asm::{Assembled, Program};
 use mw_board::Board;
 use mw_revise::{Block, KeepLine, read_keep};
